@@ -1,0 +1,127 @@
+-- The eleven refusals, the boundaries, and stations A to D of document 01, as the definitions give them. Assumes nothing.
+use Prim.Native.Nat.{ℕ, zero, suc, _+_, _-_}
+use mathlib.Core.Path.{_≡_, refl}
+use mathlib.Core.Bool.{Bool}
+use mathlib.Core.List.{List, [], _∷_, _++_, map}
+use lib.ListN.{length, getD}
+use lib.Dec.{eqb}
+use Rattle.lists.specs.Search.{seek}
+use Rattle.lists.specs.Select.{upFrom, range, tabulate, member, any, filter, count, without, indexOf, insertBy, sortBy}
+use Rattle.words.specs.Words.{kindOf, corner}
+use Rattle.station.specs.Station.{stationOf, cableOf, joins, degree}
+use Rattle.station.specs.Checks.{orElse, atWhen, check1, kindAt, misplaced, check2, check3, check4, outside, check5, check6, sameParts, repeated, check7, check8, checked}
+use Rattle.order.specs.Reach.{neighbours, endsAt, walk, unreached, null, connected, check9, check10}
+use Rattle.order.specs.Verdict.{verdict10}
+use Rattle.order.specs.Order.{candidate, firstOr, extend, order, rankIn}
+use Rattle.order.specs.Ends.{lowerRank, upperRank, lowerPart, upperPart}
+use Rattle.layout.specs.Ranked.{linesAt}
+use Rattle.layout.specs.Columns.{takenPlace, newLeft, newRight, newLast, moved, outgoing, incoming, taken, columnAt, step, columns}
+use Rattle.layout.specs.Points.{Spot, sameSpot, turns, dropRepeats, pointsOf, inner, cornersOf, bottomRows, topRows, row, isBottom, isTop, partSpot, course}
+use Rattle.layout.specs.Lines.{point}
+use Rattle.layout.specs.Crossing.{between, meetingSpot, runsCross, crossesOver, linesCross}
+use Rattle.hookup.specs.Drawing.{Drawing, spotAt, routePoints, drawingIn, drawingBy, drawing, shareEnd, crossPair, crossingsOf, crossings}
+use Rattle.hookup.specs.Sheet.{partSpotWord, cornerSpotWord, routeWords, routesWords, sheetWords}
+use Rattle.hookup.specs.Outcome.{Outcome, drawn, sentBack, fitted, orDrawn, outcome}
+use Rattle.hookup.specs.Demand.{routeAt}
+
+abbrev at : ℕ → ℕ → Spot
+at x y = record { x = x; y = y }
+
+abbrev pub triangle : List ℕ
+triangle = 0x10030003 ∷ 0x20000002 ∷ 0x30000001 ∷ 0x30001002 ∷ 0x30000002 ∷ []
+
+abbrev pub square : List ℕ
+square = 0x10040004 ∷ 0x20000002 ∷ 0x30000001 ∷ 0x30001002 ∷ 0x30002003 ∷ 0x30003000 ∷ []
+
+abbrev pub stationC : List ℕ
+stationC = 0x10040005 ∷ 0x20000002 ∷ 0x30000001 ∷ 0x30000003 ∷ 0x30001003 ∷ 0x30001002 ∷ 0x30000002 ∷ []
+
+-- all ten cables among 0 to 4
+abbrev pub stationD : List ℕ
+stationD =
+    0x1005000a
+    ∷ 0x20000004
+    ∷ 0x30000001
+    ∷ 0x30000002
+    ∷ 0x30000003
+    ∷ 0x30000004
+    ∷ 0x30001002
+    ∷ 0x30001003
+    ∷ 0x30001004
+    ∷ 0x30002003
+    ∷ 0x30002004
+    ∷ 0x30003004
+    ∷ []
+
+abbrev drawingOfList : List ℕ → Drawing
+drawingOfList list = drawing (stationOf list)
+
+-- ample room, so that only checks 1 to 10 can refuse
+abbrev room : ℕ
+room = 4096
+
+pub record Table : Type 0 where
+  refusal-1 : outcome [] room ≡ sentBack 1 0
+  refusal-2 : outcome (0x20030000 ∷ 0x20000002 ∷ []) room ≡ sentBack 2 0
+  refusal-3 : outcome (0x10030001 ∷ 0x20000002 ∷ []) room ≡ sentBack 3 3
+  refusal-4 : outcome (0x10020000 ∷ 0x20000001 ∷ []) room ≡ sentBack 4 2
+  refusal-5 : outcome (0x10030000 ∷ 0x20000003 ∷ []) room ≡ sentBack 5 1
+  refusal-6 : outcome (0x10030000 ∷ 0x20001001 ∷ []) room ≡ sentBack 6 1
+  refusal-7 : outcome (0x10030002 ∷ 0x20000002 ∷ 0x30000001 ∷ 0x30001000 ∷ []) room ≡ sentBack 7 3
+  refusal-8 : outcome (0x10060005 ∷ 0x20000005 ∷ 0x30000001 ∷ 0x30000002 ∷ 0x30000003 ∷ 0x30000004 ∷ 0x30000005 ∷ []) room ≡ sentBack 8 0
+  refusal-9 : outcome (0x10030001 ∷ 0x20000002 ∷ 0x30000001 ∷ []) room ≡ sentBack 9 2
+  refusal-10 : outcome (0x10030002 ∷ 0x20000002 ∷ 0x30000001 ∷ 0x30001002 ∷ []) room ≡ sentBack 10 1
+  refusal-11 : outcome triangle 8 ≡ sentBack 11 9
+  -- 'With 256 parts check 4 passes and with 257 it refuses'
+  parts-256 : outcome (0x11000000 ∷ 0x20000002 ∷ []) room ≡ sentBack 9 1
+  parts-257 : outcome (0x11010000 ∷ 0x20000002 ∷ []) room ≡ sentBack 4 257
+  -- 'four cables at a part pass check 8'
+  four-cables : outcome (0x10050004 ∷ 0x20000004 ∷ 0x30000001 ∷ 0x30000002 ∷ 0x30000003 ∷ 0x30000004 ∷ []) room ≡ sentBack 10 0
+  -- 'an output of 9 takes the triangle'
+  triangle-9 :
+      outcome triangle 9
+      ≡ drawn
+      (0x40001002 ∷ 0x50000000 ∷ 0x50000001 ∷ 0x50000002 ∷ 0x60000000 ∷ 0x60001000 ∷ 0x60002002 ∷ 0x70001000 ∷ 0x70001002 ∷ [])
+      0
+  b-order : order (stationOf square) ≡ 0 ∷ 1 ∷ 3 ∷ 2 ∷ []
+  b-line-2 : routeAt (drawingOfList square) 2 .corners ≡ at 1 3 ∷ []
+  b-line-3 : routeAt (drawingOfList square) 3 .corners ≡ at 1 0 ∷ []
+  c-order : order (stationOf stationC) ≡ 0 ∷ 3 ∷ 1 ∷ 2 ∷ []
+  d-width : drawingOfList stationD .width ≡ 6
+  d-height : drawingOfList stationD .height ≡ 6
+  d-corners : count (λ w. eqb (kindOf w) corner) (sheetWords (drawingOfList stationD)) ≡ 14
+  d-words : length (sheetWords (drawingOfList stationD)) ≡ 30
+  d-crossings : crossings (drawingOfList stationD) ≡ 3
+  d-parts : drawingOfList stationD .parts ≡ at 4 1 ∷ at 2 2 ∷ at 1 3 ∷ at 2 4 ∷ at 2 5 ∷ []
+  d-line-3 : routeAt (drawingOfList stationD) 3 .corners ≡ at 4 0 ∷ at 6 0 ∷ at 6 6 ∷ at 2 6 ∷ []
+
+pub table : Table
+unfolding seek upFrom range tabulate member any filter count without indexOf insertBy sortBy stationOf cableOf joins degree orElse atWhen check1 kindAt misplaced check2 check3 check4 outside check5 check6 sameParts repeated check7 check8 checked neighbours endsAt walk unreached null connected check9 check10 verdict10 candidate firstOr extend order rankIn lowerRank upperRank lowerPart upperPart linesAt takenPlace newLeft newRight newLast moved outgoing incoming taken columnAt step columns sameSpot turns dropRepeats pointsOf inner cornersOf bottomRows topRows row isBottom isTop partSpot course point between meetingSpot runsCross crossesOver linesCross spotAt routePoints drawingIn drawingBy drawing shareEnd crossPair crossingsOf crossings partSpotWord cornerSpotWord routeWords routesWords sheetWords fitted orDrawn outcome routeAt
+table = record {
+  refusal-1 = refl;
+  refusal-2 = refl;
+  refusal-3 = refl;
+  refusal-4 = refl;
+  refusal-5 = refl;
+  refusal-6 = refl;
+  refusal-7 = refl;
+  refusal-8 = refl;
+  refusal-9 = refl;
+  refusal-10 = refl;
+  refusal-11 = refl;
+  parts-256 = refl;
+  parts-257 = refl;
+  four-cables = refl;
+  triangle-9 = refl;
+  b-order = refl;
+  b-line-2 = refl;
+  b-line-3 = refl;
+  c-order = refl;
+  d-width = refl;
+  d-height = refl;
+  d-corners = refl;
+  d-words = refl;
+  d-crossings = refl;
+  d-parts = refl;
+  d-line-3 = refl;
+}

@@ -1,0 +1,29 @@
+-- Document 01 at the top: for a list and a length of output, the sheet with its counts, or the refusal with its number and place. Assumes nothing.
+use Prim.Native.Nat.{ℕ}
+use mathlib.Core.Bool.{Bool, cond}
+use mathlib.Core.List.{List}
+use lib.ListN.{length}
+use lib.Dec.{ltb}
+use Rattle.station.specs.Station.{stationOf}
+use Rattle.station.specs.Checks.{Verdict, passed, refused}
+use Rattle.order.specs.Verdict.{verdict10}
+use Rattle.hookup.specs.Drawing.{Drawing, drawing, crossings}
+use Rattle.hookup.specs.Sheet.{sheetWords}
+
+-- 'A successful call returns the words written and the crossings'; a refusal 'returns its number and one place'.
+pub data Outcome : Type 0 where
+  drawn : (words : List ℕ) (crossings : ℕ) → Outcome
+  sentBack : (check place : ℕ) → Outcome
+
+-- 11: 'output shorter than the sheet', 'words of the sheet'
+unfoldable pub fitted : Drawing → ℕ → Outcome
+fitted d room =
+    let words = sheetWords d in
+    cond (ltb room (length words)) (sentBack 11 (length words)) (drawn words (crossings d))
+
+unfoldable pub orDrawn : Verdict → Outcome → Outcome
+orDrawn passed o = o
+orDrawn (refused check place) o = sentBack check place
+
+unfoldable pub outcome : List ℕ → ℕ → Outcome
+outcome list room = orDrawn (verdict10 list) (fitted (drawing (stationOf list)) room)

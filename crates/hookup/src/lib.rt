@@ -1,0 +1,1 @@
+// The call that draws a hookup sheet.

@@ -1,0 +1,3 @@
+-- Lists of numbers: what the definitions of every other crate are written with. Assumes nothing.
+pub mod Search
+pub mod Select

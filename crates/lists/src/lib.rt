@@ -1,0 +1,5 @@
+// What a search finds: the first place, or nothing.
+pub enum Found {
+    At(usize),
+    Nothing,
+}

@@ -1,0 +1,94 @@
+-- Document 01, 'Lists that are sent back': checks 1 to 8, each with its place. Assumes nothing.
+use Prim.Native.Nat.{ℕ, zero, suc, _+_, _-_}
+use mathlib.Core.Bool.{Bool, cond, not, _&&_, _||_}
+use mathlib.Core.List.{List}
+use lib.ListN.{length, getD}
+use lib.Dec.{eqb, ltb, leb}
+use Rattle.lists.specs.declared.Found.{Found}
+use Rattle.lists.specs.declared.Found.the-variants.{At, Nothing}
+use Rattle.lists.specs.Search.{seek, isFound}
+use Rattle.words.specs.Words.{kindOf, spareOf, firstOf, secondOf, partsOf, cablesOf, listHead, ends, cable}
+use Rattle.station.specs.Station.{stationOf, degree}
+
+-- The first check that applies, with its place, or a pass.
+pub data Verdict : Type 0 where
+  passed : Verdict
+  refused : (check place : ℕ) → Verdict
+
+-- check c, at a place if it applies; else what the later checks say
+unfoldable pub orElse : ℕ → Found → Verdict → Verdict
+orElse c (At place) later = refused c place
+orElse c Nothing later = later
+
+-- a place where the condition holds
+unfoldable pub atWhen : Bool → ℕ → Found
+atWhen b place = cond b (At place) Nothing
+
+-- 1: 'fewer than two words', 'words found'
+unfoldable pub check1 : List ℕ → Found
+check1 list = atWhen (ltb (length list) 2) (length list)
+
+-- the kind that is right for a position: the head, the ends, then cables
+unfoldable pub kindAt : ℕ → ℕ
+kindAt i = cond (eqb i 0) listHead (cond (eqb i 1) ends cable)
+
+-- 'a word's kind is wrong for its position, or any of its bits 27 to 24 is set in kind 2 or 3'
+unfoldable pub misplaced : ℕ → ℕ → Bool
+misplaced i w = not (eqb (kindOf w) (kindAt i)) || ((eqb (kindOf w) ends || eqb (kindOf w) cable) && not (eqb (spareOf w) 0))
+
+-- 2: 'first such word, from 0'
+unfoldable pub check2 : List ℕ → Found
+check2 list = seek (λ i. misplaced i (getD list i 0)) 0 (length list)
+
+-- 3: 'words other than m + 2', 'm + 2'
+unfoldable pub check3 : List ℕ → Found
+check3 list = let due = cablesOf (getD list 0 0) + 2 in atWhen (not (eqb (length list) due)) due
+
+-- 4: 'n below 3 or above 256', 'n'
+unfoldable pub check4 : List ℕ → Found
+check4 list = let n = partsOf (getD list 0 0) in atWhen (ltb n 3 || ltb 256 n) n
+
+-- a part number of the word is n or more
+unfoldable pub outside : ℕ → ℕ → Bool
+outside n w = leb n (firstOf w) || leb n (secondOf w)
+
+-- 5: 'a part number n or more', 'first such word'
+unfoldable pub check5 : List ℕ → Found
+check5 list = let n = partsOf (getD list 0 0) in seek (λ i. outside n (getD list i 0)) 1 (length list - 1)
+
+-- 6: 's equals t, or a cable joins a part to itself', 'first such word'
+unfoldable pub check6 : List ℕ → Found
+check6 list = seek (λ i. eqb (firstOf (getD list i 0)) (secondOf (getD list i 0))) 1 (length list - 1)
+
+-- 'joins the same two parts .. either way round'
+unfoldable pub sameParts : ℕ → ℕ → Bool
+sameParts v w = (eqb (firstOf v) (firstOf w) && eqb (secondOf v) (secondOf w)) || (eqb (firstOf v) (secondOf w) && eqb (secondOf v) (firstOf w))
+
+-- the cable word at i joins the same two parts 'as an earlier one'
+unfoldable pub repeated : List ℕ → ℕ → Bool
+repeated list i = isFound (seek (λ j. sameParts (getD list j 0) (getD list i 0)) 2 (i - 2))
+
+-- 7: 'first such later word'
+unfoldable pub check7 : List ℕ → Found
+check7 list = seek (repeated list) 2 (length list - 2)
+
+-- 8: 'a part with more than four cables', 'lowest such part'
+unfoldable pub check8 : List ℕ → Found
+check8 list = let st = stationOf list in seek (λ p. ltb 4 (degree (st .cables) p)) 0 (st .parts)
+
+-- 'Checks run in this order, each over the whole list before the next. The first that applies is the refusal': checks 1 to 8, then what follows
+unfoldable pub checked : List ℕ → Verdict → Verdict
+checked list later =
+    orElse 1 (check1 list)
+    (orElse 2 (check2 list)
+    (orElse 3 (check3 list)
+    (orElse 4 (check4 list)
+    (orElse 5 (check5 list)
+    (orElse 6 (check6 list)
+    (orElse 7 (check7 list)
+    (orElse 8 (check8 list)
+    later)))))))
+
+-- the verdict of checks 1 to 8
+unfoldable pub verdict8 : List ℕ → Verdict
+verdict8 list = checked list passed

@@ -1,0 +1,3 @@
+-- The station that a list describes, and checks 1 to 8 of document 01. Assumes nothing.
+pub mod Station
+pub mod Checks

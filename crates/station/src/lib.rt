@@ -1,0 +1,1 @@
+// A station's list, read and checked.

@@ -1,0 +1,2 @@
+-- Document 01, 'The words'. Assumes nothing.
+pub mod Words

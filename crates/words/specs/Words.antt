@@ -1,0 +1,80 @@
+-- Document 01, 'The words': each kind of word made and taken apart, over ℕ. Assumes nothing.
+use Prim.Native.Nat.{ℕ, _+_, _*_, _/_, _%_}
+
+-- 'The top four bits (31 to 28) are the kind.'
+abbrev pub kindOf : ℕ → ℕ
+kindOf w = w / 0x1000_0000
+
+-- bits 27 to 24, zero in every kind with two 12-bit fields
+abbrev pub spareOf : ℕ → ℕ
+spareOf w = w / 0x100_0000 % 16
+
+-- 'two 12-bit fields follow, the first in bits 23 to 12, the second in 11 to 0'
+abbrev pub firstOf : ℕ → ℕ
+firstOf w = w / 4096 % 4096
+
+abbrev pub secondOf : ℕ → ℕ
+secondOf w = w % 4096
+
+-- kinds 1 to 7: list head, ends, a list's cable, sheet head, a part's x and y, a sheet's cable, a corner's x and y
+abbrev pub listHead : ℕ
+listHead = 1
+
+abbrev pub ends : ℕ
+ends = 2
+
+abbrev pub cable : ℕ
+cable = 3
+
+abbrev pub sheetHead : ℕ
+sheetHead = 4
+
+abbrev pub part : ℕ
+part = 5
+
+abbrev pub sheetCable : ℕ
+sheetCable = 6
+
+abbrev pub corner : ℕ
+corner = 7
+
+-- a word of a kind with two 12-bit fields
+abbrev pub fields : ℕ → ℕ → ℕ → ℕ
+fields kind a b = kind * 0x1000_0000 + a * 4096 + b
+
+-- 'list head: n in bits 27 to 16, m in bits 15 to 0'
+abbrev pub listHeadWord : ℕ → ℕ → ℕ
+listHeadWord n m = listHead * 0x1000_0000 + n * 65536 + m
+
+abbrev pub partsOf : ℕ → ℕ
+partsOf w = w / 65536 % 4096
+
+abbrev pub cablesOf : ℕ → ℕ
+cablesOf w = w % 65536
+
+-- 'ends: source s, analyser t'
+abbrev pub endsWord : ℕ → ℕ → ℕ
+endsWord s t = fields ends s t
+
+-- 'cable: its two parts'
+abbrev pub cableWord : ℕ → ℕ → ℕ
+cableWord a b = fields cable a b
+
+-- 'sheet head: width, height'
+abbrev pub sheetHeadWord : ℕ → ℕ → ℕ
+sheetHeadWord w h = fields sheetHead w h
+
+-- 'a part's x, y'
+abbrev pub partWord : ℕ → ℕ → ℕ
+partWord x y = fields part x y
+
+-- 'cable: line number in bits 27 to 12, count of corners in 11 to 0'
+abbrev pub sheetCableWord : ℕ → ℕ → ℕ
+sheetCableWord line corners = sheetCable * 0x1000_0000 + line * 4096 + corners
+
+abbrev pub lineOf : ℕ → ℕ
+lineOf w = w / 4096 % 65536
+
+-- 'a corner's x, y'
+abbrev pub cornerWord : ℕ → ℕ → ℕ
+cornerWord x y = fields corner x y

@@ -1,0 +1,657 @@
+#!/usr/bin/env python3
+"""Lists to compare programs with.
+
+`lists.py COUNT SEED [N_MAX]` prints COUNT lists, one a line, as hexadecimal
+words with single spaces. A list of no words is an empty line.
+"""
+
+import random
+import sys
+
+
+# Words, made without the reference so that a slip there is not repeated here.
+
+def head(n, m):
+    return 0x10000000 | (n & 0xfff) << 16 | m & 0xffff
+
+
+def ends(s, t):
+    return 0x20000000 | s << 12 | t
+
+
+def cable(a, b):
+    return 0x30000000 | a << 12 | b
+
+
+def build(n, s, t, cables):
+    return [head(n, len(cables)), ends(s, t)] + [cable(a, b) for a, b in cables]
+
+
+def degrees(n, cables):
+    count = [0] * n
+    for a, b in cables:
+        count[a] += 1
+        count[b] += 1
+    return count
+
+
+# Stations without a cut part, as (n, set of sorted pairs).
+
+def pair(a, b):
+    return (a, b) if a < b else (b, a)
+
+
+def ring(n):
+    return n, {pair(p, (p + 1) % n) for p in range(n)}
+
+
+def grid(wide, high):
+    """Without a cut part where both sides are 2 or more; a ladder where one is 2."""
+    cables = set()
+    for y in range(high):
+        for x in range(wide):
+            p = y * wide + x
+            if x + 1 < wide:
+                cables.add((p, p + 1))
+            if y + 1 < high:
+                cables.add((p, p + wide))
+    return wide * high, cables
+
+
+def torus(wide, high):
+    """Four cables at each part; both sides 3 or more."""
+    cables = set()
+    for y in range(high):
+        for x in range(wide):
+            p = y * wide + x
+            cables.add(pair(p, y * wide + (x + 1) % wide))
+            cables.add(pair(p, (y + 1) % high * wide + x))
+    return wide * high, cables
+
+
+def second_neighbours(n):
+    """Each part joined to the next and the next but one; n is 5 or more."""
+    return n, {pair(p, (p + k) % n) for p in range(n) for k in (1, 2)}
+
+
+def complete(n):
+    return n, {(a, b) for b in range(n) for a in range(b)}
+
+
+def four_regular(rng, n):
+    """Two rings over the same parts with no cable in common; n is 5 or more."""
+    while True:
+        first, second = list(range(n)), list(range(n))
+        rng.shuffle(first)
+        rng.shuffle(second)
+        cables = {pair(row[i - 1], row[i]) for row in (first, second) for i in range(n)}
+        if len(cables) == 2 * n:
+            return n, cables
+
+
+def bundle(rng, n, ways):
+    """Two hubs with 2 to 4 separate ways between them, which spread the other
+    parts; at most one way is a lone cable."""
+    cables = set()
+    cuts = [1] * (ways - 1) + [0]
+    for _ in range(n - 2 - (ways - 1)):
+        cuts[rng.randrange(ways)] += 1
+    nxt = 2
+    for length in cuts:
+        last = 0
+        for _ in range(length):
+            cables.add(pair(last, nxt))
+            last = nxt
+            nxt += 1
+        cables.add(pair(last, 1))
+    return n, cables
+
+
+def ears(rng, n):
+    """A ring, then ears until all n parts are in, then single cables; each step
+    leaves no cut part."""
+    size = rng.choice([3, n, rng.randint(3, n)])
+    cables = {pair(p, (p + 1) % size) for p in range(size)}
+    count = [2] * size
+    longest = rng.choice([1, 2, 4, n])
+    near_last = rng.random() < 0.3      # ears that hang on late parts go deep
+
+    def free_pair(apart):
+        free = [p for p in range(len(count)) if count[p] < 4]
+        if near_last:
+            free = free[-8:]
+        for _ in range(20):
+            if len(free) < 2:
+                return None
+            a, b = rng.sample(free, 2)
+            if not apart or pair(a, b) not in cables:
+                return a, b
+        return None
+
+    while len(count) < n:
+        inner = rng.randint(1, min(longest, n - len(count)))
+        found = free_pair(False)
+        if found is None:
+            # No free ends: put a part into a cable.
+            a, b = rng.choice(sorted(cables))
+            cables.remove((a, b))
+            cables |= {pair(a, len(count)), pair(b, len(count))}
+            count.append(2)
+            continue
+        a, b = found
+        last = a
+        for _ in range(inner):
+            cables.add(pair(last, len(count)))
+            last = len(count)
+            count.append(2)
+        cables.add(pair(last, b))
+        count[a] += 1
+        count[b] += 1
+    near_last = False
+    for _ in range(rng.choice([0, 1, rng.randint(0, n), 2 * n])):
+        found = free_pair(True)
+        if found is None:
+            break
+        cables.add(pair(*found))
+        for p in found:
+            count[p] += 1
+    return n, cables
+
+
+def some_graph(rng, n):
+    makers = [ears] * 6
+    makers.append(lambda rng, n: ring(n))
+    if n <= 5:
+        makers.append(lambda rng, n: complete(n))
+    if n >= 5:
+        makers.append(four_regular)
+        makers.append(lambda rng, n: second_neighbours(n))
+    if n >= 4 and n % 2 == 0:
+        makers.append(lambda rng, n: grid(2, n // 2))
+    for wide in range(3, n // 3 + 1):
+        if n % wide == 0:
+            makers.append(lambda rng, n, wide=wide: grid(wide, n // wide))
+            makers.append(lambda rng, n, wide=wide: torus(wide, n // wide))
+            break
+    for ways in (2, 3, 4):
+        if n >= ways + 1:
+            makers.append(lambda rng, n, ways=ways: bundle(rng, n, ways))
+    return rng.choice(makers)(rng, n)
+
+
+def listed(rng, n, cables, s, t, shuffled=True):
+    """The list of a station, its numbers, lines and directions shuffled."""
+    number = list(range(n))
+    if shuffled:
+        rng.shuffle(number)
+    rows = [(number[a], number[b]) for a, b in sorted(cables)]
+    if shuffled:
+        rng.shuffle(rows)
+        rows = [c if rng.random() < 0.5 else c[::-1] for c in rows]
+    return build(n, number[s], number[t], rows)
+
+
+def drawn(rng, n_min=3, n_max=40):
+    """A list that passes checks 1 to 10, with n_min to n_max parts. The counts
+    of cables at s and t, and whether one cable joins s to t, are chosen first;
+    where no station of that shape turns up, any station will do."""
+    n = rng.randint(n_min, n_max)
+    at_s, at_t = rng.choice((2, 3, 4)), rng.choice((2, 3, 4))
+    joined = rng.random() < 0.4
+    for _ in range(25):
+        n, cables = some_graph(rng, n)
+        count = degrees(n, cables)
+        if joined:
+            rows = [(a, b) for c in sorted(cables) for a, b in (c, c[::-1])]
+        else:
+            rows = [(a, b) for a in range(n) for b in range(n)
+                    if a != b and pair(a, b) not in cables]
+        rows = [(a, b) for a, b in rows if (count[a], count[b]) == (at_s, at_t)]
+        if rows:
+            s, t = rng.choice(rows)
+            break
+    else:
+        s, t = rng.sample(range(n), 2)
+    return listed(rng, n, cables, s, t, rng.random() < 0.85)
+
+
+def large(rng):
+    """A list of 256 parts."""
+    n, cables = rng.choice([
+        lambda: ring(256), lambda: grid(2, 128), lambda: grid(16, 16), lambda: grid(4, 64),
+        lambda: torus(16, 16), lambda: second_neighbours(256),
+        lambda: four_regular(rng, 256), lambda: ears(rng, 256),
+        lambda: bundle(rng, 256, 4)])()
+    s, t = rng.sample(range(n), 2)
+    return listed(rng, n, cables, s, t, rng.random() < 0.7)
+
+
+def rooms(words):
+    """Lengths of output to try for a list that passes checks 1 to 10: around
+    the 3m - n + 3 + d + e words of its sheet, and none at all."""
+    n, m = words[0] >> 16 & 0xfff, words[0] & 0xffff
+    count = degrees(n, [(w >> 12 & 0xfff, w & 0xfff) for w in words[2:]])
+    s, t = words[1] >> 12 & 0xfff, words[1] & 0xfff
+    size = 3 * m - n + 3 + (count[s] == 4) + (count[t] == 4)
+    return [0, 1, size - 2, size - 1, size, size + 1]
+
+
+# Faults, each put into the words of a list. Another may hide it.
+
+def fault_1(rng, words):
+    return rng.choice([[], words[:1], [rng.getrandbits(32)]])
+
+
+def fault_2(rng, words):
+    out = list(words)
+    if not out:
+        return out
+    i = rng.choice([0, min(1, len(out) - 1), len(out) - 1, rng.randrange(len(out))])
+    if i and rng.random() < 0.5:
+        out[i] |= 1 << rng.randint(24, 27)
+    else:
+        out[i] = out[i] & 0x0fffffff | rng.randrange(16) << 28
+    return out
+
+
+def fault_3(rng, words):
+    out = list(words)
+    if not out:
+        return out
+    way = rng.randrange(4)
+    if way == 0:
+        out.pop()
+    elif way == 1:
+        out.append(cable(rng.randrange(4), rng.randrange(4)))
+    elif way == 2:
+        m = out[0] & 0xffff
+        out[0] = out[0] & ~0xffff | (m + rng.choice([-1, 1])) & 0xffff
+    else:
+        out[0] = out[0] & ~0xffff | rng.choice([0, 0xffff, rng.getrandbits(16)])
+    return out
+
+
+def fault_4(rng, words):
+    out = list(words)
+    if out:
+        n = rng.choice([0, 1, 2, 257, 258, 0x203, 0xfff])
+        out[0] = out[0] & 0xf000ffff | n << 16
+    return out
+
+
+def fault_5(rng, words):
+    out = list(words)
+    if len(out) < 2:
+        return out
+    n = out[0] >> 16 & 0xfff
+    p = min(0xfff, rng.choice([n, n + 1, 0x100, 0xfff]))
+    i = rng.choice([1, rng.randrange(1, len(out))])
+    shift = rng.choice([0, 12])
+    out[i] = out[i] & ~(0xfff << shift) | p << shift
+    return out
+
+
+def fault_6(rng, words):
+    out = list(words)
+    if len(out) < 2:
+        return out
+    i = rng.choice([1, rng.randrange(1, len(out))])
+    p = rng.choice([out[i] & 0xfff, out[i] >> 12 & 0xfff])
+    out[i] = out[i] & 0xff000000 | p << 12 | p
+    return out
+
+
+def grown(words, extra):
+    """The list with more cables, its count kept right."""
+    out = list(words) + extra
+    out[0] = out[0] & ~0xffff | (out[0] + len(extra)) & 0xffff
+    return out
+
+
+def turned(word):
+    return word & 0xff000000 | (word & 0xfff) << 12 | word >> 12 & 0xfff
+
+
+def fault_7(rng, words):
+    if len(words) < 3:
+        return list(words)
+    again = [rng.choice([w, turned(w)]) for w in rng.sample(words[2:], rng.choice([1, 1, 2]))
+             ] if len(words) > 3 else [words[2]]
+    if rng.random() < 0.5:
+        return grown(words, again)
+    # In place of a cable, so that earlier ones may be the repetition.
+    out = list(words)
+    out[rng.randrange(2, len(out))] = again[0]
+    return out
+
+
+def fault_8(rng, words):
+    if len(words) < 3:
+        return list(words)
+    n = max(3, words[0] >> 16 & 0xfff)
+    p = rng.randrange(n)
+    have = {(w >> 12 & 0xfff, w & 0xfff) for w in words[2:]}
+    free = [q for q in range(n) if q != p and (p, q) not in have and (q, p) not in have]
+    rng.shuffle(free)
+    extra = []
+    for q in free[:rng.choice([1, 2, 3, 4])]:
+        extra.append(cable(*rng.choice([(p, q), (q, p)])))
+    return grown(words, extra)
+
+
+FAULTS = [fault_1, fault_2, fault_3, fault_4, fault_5, fault_6, fault_7, fault_8]
+
+
+def apart(rng):
+    """Check 9: two stations side by side, or parts without a cable."""
+    n, cables = some_graph(rng, rng.randint(3, 12))
+    size = rng.choice([1, 1, 2, 3, 5])
+    if size >= 3:
+        more = some_graph(rng, size)[1]
+    elif size == 2:
+        more = {(0, 1)}
+    else:
+        more = set()
+    cables = cables | {(a + n, b + n) for a, b in more}
+    n += size
+    s, t = rng.sample(range(n), 2)
+    return listed(rng, n, cables, s, t)
+
+
+def cut(rng):
+    """Check 10: two stations with one part or one cable between them, or a
+    part that hangs on one cable; at most four cables at a part."""
+    while True:
+        n, cables = some_graph(rng, rng.randint(3, 12))
+        k, more = some_graph(rng, rng.randint(3, 8))
+        a, b = rng.randrange(n), rng.randrange(k)
+        way = rng.randrange(3)
+        if way == 0:
+            place = [n + q for q in range(k)]
+            place[b] = a
+            place = [q if q <= n + b else q - 1 for q in place]
+            cables = cables | {pair(place[p], place[q]) for p, q in more}
+            n += k - 1
+        elif way == 1:
+            cables = cables | {(p + n, q + n) for p, q in more} | {(a, n + b)}
+            n += k
+        else:
+            for _ in range(rng.choice([1, 2])):
+                cables = cables | {(a, n)}
+                a = n
+                n += 1
+        if max(degrees(n, cables)) <= 4:
+            s, t = rng.sample(range(n), 2)
+            return listed(rng, n, cables, s, t)
+
+
+def might_pass(words):
+    """Whether the list passes checks 1 to 10, tested without the reference."""
+    if len(words) < 2 or words[0] >> 28 != 1 or words[1] >> 24 != 0x20:
+        return False
+    if any(w >> 24 != 0x30 for w in words[2:]) or len(words) != (words[0] & 0xffff) + 2:
+        return False
+    n = words[0] >> 16 & 0xfff
+    rows = [(w >> 12 & 0xfff, w & 0xfff) for w in words[1:]]
+    if not 3 <= n <= 256 or any(a >= n or b >= n or a == b for a, b in rows):
+        return False
+    cables = [pair(a, b) for a, b in rows[1:]]
+    if len(set(cables)) != len(cables) or max(degrees(n, cables)) > 4:
+        return False
+    for gone in range(-1, n):
+        group = list(range(n))
+        for _ in range(n):
+            before = list(group)
+            for a, b in cables:
+                if gone not in (a, b):
+                    group[a] = group[b] = min(group[a], group[b])
+            if group == before:
+                break
+        if len({group[p] for p in range(n) if p != gone}) > 1:
+            return False
+    return True
+
+
+def refused(rng):
+    """A list that one of checks 1 to 10 sends back; often with several faults."""
+    while True:
+        way = rng.randrange(12)
+        if way < 8:
+            words = FAULTS[way](rng, drawn(rng, 3, rng.choice([4, 6, 16])))
+        elif way < 10:
+            words = apart(rng)
+        else:
+            words = cut(rng)
+        while rng.random() < 0.35:
+            words = rng.choice(FAULTS[1:])(rng, words)
+        if not might_pass(words):
+            return words
+
+
+def noise(rng):
+    """Small lists of chance: any outcome, faults in any mixture."""
+    n = rng.choice([2, 3, 4, 5, 6])
+    m = rng.randint(0, 2 * n)
+    words = build(n, rng.randrange(n), rng.randrange(n),
+                  [(rng.randrange(n), rng.randrange(n)) for _ in range(m)])
+    if rng.random() < 0.2:
+        words[rng.randrange(len(words))] ^= 1 << rng.randrange(32)
+    return words
+
+
+def any_list(rng, n_min=3, n_max=40):
+    way = rng.random()
+    if way < 0.55:
+        return drawn(rng, n_min, n_max)
+    if way < 0.92:
+        return refused(rng)
+    return noise(rng)
+
+
+# Named lists. A name begins with what is due, then a comma.
+
+def boundaries():
+    out = []
+
+    def put(due, what, words):
+        out.append(('%s, %s' % (due, what), words))
+
+    def no(check, place, what, words):
+        put('refused %d %d' % (check, place), what, words)
+
+    triangle = build(3, 0, 2, [(0, 1), (1, 2), (0, 2)])
+    put('sheet', 'triangle', triangle)
+
+    # 1
+    no(1, 0, 'no words', [])
+    for w in (triangle[0], 0, 0xffffffff):
+        no(1, 1, 'one word %08x' % w, [w])
+
+    # 2
+    for i, due in enumerate((1, 2, 3, 3, 3)):
+        for k in range(16):
+            if k != due:
+                words = list(triangle)
+                words[i] = words[i] & 0x0fffffff | k << 28
+                no(2, i, 'kind %d at word %d' % (k, i), words)
+        for bit in (24, 25, 26, 27):
+            words = list(triangle)
+            words[i] |= 1 << bit
+            if i:
+                no(2, i, 'bit %d at word %d' % (bit, i), words)
+            else:
+                no(4, 3 + (1 << bit - 16), 'bit %d of the head is one of n' % bit, words)
+    no(2, 0, 'two words of zero', [0, 0])
+    no(2, 1, 'head and zero', [triangle[0], 0])
+    no(2, 2, 'two heads in place of cables', triangle[:2] + [triangle[0]] * 3)
+    no(2, 3, 'bits in words 3 and 4', triangle[:3] + [0x31001002, 0x38000002])
+
+    # 3
+    no(3, 5, 'a word less', triangle[:-1])
+    no(3, 5, 'a word more', triangle + [cable(0, 1)])
+    no(3, 6, 'm one more', [head(3, 4)] + triangle[1:])
+    no(3, 4, 'm one less', [head(3, 2)] + triangle[1:])
+    no(3, 2, 'm of 0', [head(3, 0)] + triangle[1:])
+    no(3, 65537, 'm of 65535', [head(3, 65535)] + triangle[1:])
+    no(3, 3, 'two words and m of 1', [head(3, 1), ends(0, 2)])
+    no(9, 1, 'two words and m of 0', [head(3, 0), ends(0, 2)])
+
+    # 4
+    for n in (0, 1, 2, 257, 258, 512, 4095):
+        no(4, n, 'n of %d' % n, [head(n, 3)] + triangle[1:])
+    no(4, 2, 'two parts and a cable', build(2, 0, 1, [(0, 1)]))
+    for n in (255, 256, 257):
+        cables = sorted(ring(n)[1])
+        words = build(n, 0, n - 1, cables)
+        if n == 257:
+            no(4, 257, 'ring of 257', words)
+        else:
+            put('sheet', 'ring of %d' % n, words)
+
+    # 5
+    for i in range(1, 5):
+        for p in (3, 4, 256, 4095):
+            for shift in (0, 12):
+                words = list(triangle)
+                words[i] = words[i] & ~(0xfff << shift) | p << shift
+                no(5, i, 'part %d at word %d, bit %d' % (p, i, shift), words)
+    no(5, 3, 'part 3 at words 3 and 4', triangle[:3] + [cable(3, 1), cable(0, 3)])
+    big = build(256, 0, 255, sorted(ring(256)[1]))
+    no(5, 257, 'part 256 of 256 in the last word', big[:-1] + [cable(256, 0)])
+    no(5, 1, 't is 256 of 256', big[:1] + [ends(0, 256)] + big[2:])
+
+    # 6
+    for p in range(3):
+        no(6, 1, 's and t are %d' % p, [triangle[0], ends(p, p)] + triangle[2:])
+        for i in range(2, 5):
+            words = list(triangle)
+            words[i] = cable(p, p)
+            no(6, i, 'word %d joins %d to itself' % (i, p), words)
+    no(6, 1, 's is t and a cable joins a part to itself',
+       [triangle[0], ends(1, 1), cable(0, 0)] + triangle[3:])
+    no(6, 3, 'two cables join a part to itself',
+       triangle[:3] + [cable(2, 2), cable(1, 1)])
+
+    # 7
+    for i in range(3):
+        for w, how in ((triangle[2 + i], 'again'), (turned(triangle[2 + i]), 'turned round')):
+            no(7, 5, 'cable %d %s' % (i, how), grown(triangle, [w]))
+    no(7, 3, 'two adjacent', build(3, 0, 2, [(0, 1), (1, 0), (1, 2), (0, 2)]))
+    no(7, 4, 'later words cross over',
+       build(3, 0, 2, [(0, 1), (1, 2), (2, 1), (1, 0), (0, 2)]))
+    no(7, 3, 'three times', build(3, 0, 2, [(0, 1), (0, 1), (1, 0)]))
+
+    # 8
+    five = sorted(complete(5)[1])
+    for s in range(5):
+        for t in range(5):
+            if s != t:
+                put('sheet', 'all ten cables, s %d, t %d' % (s, t), build(5, s, t, five))
+    no(8, 0, 'all fifteen cables among six', build(6, 0, 5, sorted(complete(6)[1])))
+    wheel = [(p, (p + 1) % 5) for p in range(5)] + [(5, p) for p in range(5)]
+    no(8, 5, 'five cables at the last part', build(6, 0, 5, wheel))
+    no(8, 2, 'five cables at 2 and 6',
+       build(7, 0, 6, [(6, 0), (6, 1), (6, 3), (6, 4), (6, 5),
+                       (2, 0), (2, 1), (2, 3), (2, 4), (2, 5)]))
+    put('sheet', 'four cables at the last part',
+        build(5, 0, 4, [(0, 1), (1, 2), (2, 3), (3, 0), (4, 0), (4, 1), (4, 2), (4, 3)]))
+
+    # 9
+    three = [(0, 1), (1, 2), (0, 2)]
+    no(9, 3, 'the last part alone', build(4, 0, 2, three))
+    no(9, 1, 'part 0 alone', build(4, 1, 3, [(1, 2), (2, 3), (1, 3)]))
+    no(9, 3, 'two triangles', build(6, 0, 5, three + [(3, 4), (4, 5), (3, 5)]))
+    no(9, 1, 'two triangles in turn',
+       build(6, 0, 5, [(0, 2), (2, 4), (4, 0), (1, 3), (3, 5), (5, 1)]))
+    no(9, 255, 'part 255 of 256 alone', build(256, 0, 1, sorted(ring(255)[1])))
+    no(9, 1, '256 parts, no cable', build(256, 0, 1, []))
+
+    # 10
+    no(10, 1, 'path', build(3, 0, 2, [(0, 1), (1, 2)]))
+    no(10, 0, 'path with part 0 within', build(3, 0, 2, [(0, 1), (0, 2)]))
+    no(10, 2, 'path with part 2 within', build(3, 0, 2, [(0, 2), (1, 2)]))
+    for s, t in ((2, 0), (0, 2), (0, 1), (0, 4)):
+        no(10, 2, 'two triangles on part 2, s %d, t %d' % (s, t),
+           build(5, s, t, [(0, 1), (1, 2), (0, 2), (2, 3), (3, 4), (2, 4)]))
+    no(10, 2, 'two triangles with a cable between',
+       build(6, 0, 5, three + [(3, 4), (4, 5), (3, 5), (2, 3)]))
+    no(10, 1, 'path of 256', build(256, 0, 255, [(p, p + 1) for p in range(255)]))
+    no(10, 254, 'part 255 of 256 on one cable',
+       build(256, 0, 255, sorted(ring(255)[1]) + [(254, 255)]))
+    no(10, 255, 'only part 255 cuts',
+       build(256, 0, 1, sorted({pair(p, (p + 1) % 254) for p in range(254)} - {(0, 253)}
+                               | {(0, 255), (253, 255), (254, 255)}
+                               | {(p, p + 2) for p in range(252)})))
+
+    # Several faults: the lower number goes first wherever its word stands.
+    no(2, 4, '2 before 3 to 7', [head(2, 9), ends(9, 9), cable(1, 1), cable(1, 1), 0x40000000])
+    no(3, 11, '3 before 4 to 7', [head(2, 9), ends(9, 9), cable(1, 1), cable(1, 1)])
+    no(4, 2, '4 before 5 to 7', [head(2, 2), ends(9, 9), cable(1, 1), cable(1, 1)])
+    no(5, 4, '5 before 6', build(3, 1, 1, [(0, 0), (1, 2), (0, 3)]))
+    no(6, 4, '6 before 7', build(3, 0, 2, [(0, 1), (1, 0), (2, 2)]))
+    no(6, 2, 'a cable from a part to itself twice', build(3, 0, 2, [(1, 1), (1, 1)]))
+    no(7, 7, '7 before 8',
+       build(6, 0, 5, [(0, 1), (0, 2), (0, 3), (0, 4), (0, 5), (5, 0)]))
+    no(8, 1, '8 before 9', build(7, 0, 6, [(1, 2), (1, 3), (1, 4), (1, 5), (1, 6)]))
+    no(9, 3, '9 before 10', build(4, 0, 3, [(0, 1), (1, 2)]))
+
+    # Bottom and top connections, alone and together, at s and t joined or not.
+    rng = random.Random(256)
+    seen = set()
+    while len(seen) < 18:
+        n, cables = ears(rng, rng.randint(6, 9))
+        s, t = rng.sample(range(n), 2)
+        count = degrees(n, cables)
+        shape = count[s], count[t], pair(s, t) in cables
+        if shape not in seen:
+            seen.add(shape)
+            put('sheet', '%d cables at s; %d at t; %s' % (
+                shape[0], shape[1], 'joined' if shape[2] else 'not joined'),
+                listed(rng, n, cables, s, t))
+
+    # 256 parts.
+    for what, (n, cables) in (('ladder', grid(2, 128)), ('grid', grid(16, 16)),
+                              ('torus', torus(16, 16)),
+                              ('next and next but one', second_neighbours(256)),
+                              ('512 cables', four_regular(rng, 256)),
+                              ('four ways', bundle(rng, 256, 4))):
+        put('sheet', '256 parts: ' + what, build(n, 0, n - 1, sorted(cables)))
+        put('sheet', '256 parts: %s shuffled' % what,
+            listed(rng, n, cables, *rng.sample(range(n), 2)))
+    return out
+
+
+def files():
+    """(name, bytes, first line due) about the length of a file."""
+    triangle = b''.join(w.to_bytes(4, 'big')
+                        for w in build(3, 0, 2, [(0, 1), (1, 2), (0, 2)]))
+    out = [('file of %d bytes' % k, triangle[:k],
+            'broken file' if k % 4 else 'refused %d %d' % ((1, k // 4) if k < 8 else (3, 5)))
+           for k in range(20)]
+    out.append(('triangle', triangle, '40001002'))
+    for k in (1, 2, 3):
+        out.append(('triangle and %d bytes' % k, triangle + bytes(k), 'broken file'))
+    out.append(('triangle and a word', triangle + bytes(4), 'refused 2 5'))
+    full = b''.join(w.to_bytes(4, 'big') for w in
+                    [head(3, 16382), ends(0, 2)] + [cable(0, 1), cable(1, 2)] * 8191)
+    assert len(full) == 65536
+    out += [('65532 bytes', full[:-4], 'refused 3 16384'),
+            ('65535 bytes', full[:-1], 'broken file'),
+            ('65536 bytes', full, 'refused 7 4'),
+            ('65537 bytes', full + b'0', 'file too large'),
+            ('65540 bytes', full + full[:4], 'file too large'),
+            ('a million bytes', bytes(1000000), 'file too large')]
+    return out
+
+
+def main(args):
+    if len(args) not in (2, 3):
+        sys.exit('lists.py COUNT SEED [N_MAX]')
+    rng = random.Random(int(args[1]))
+    n_max = int(args[2]) if len(args) == 3 else 40
+    for _ in range(int(args[0])):
+        print(' '.join('%08x' % w for w in any_list(rng, 3, n_max)))
+
+
+if __name__ == '__main__':
+    main(sys.argv[1:])
