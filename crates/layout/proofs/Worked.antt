@@ -1,14 +1,19 @@
--- Stations B, C and D of document 01 at this stage, in ranks: where the ranks stand and where the cables turn. B's and D's values are document 01's. Assumes nothing.
-use Prim.Native.Nat.{ℕ, suc, _+_}
+-- Stations B, C and D of document 01 at this stage, in ranks: where the ranks stand and where the cables turn. B's and D's values are document 01's.
+-- And D, which has four cables at both ends, is ranked, so that what is shown of ranked stations holds of it. Assumes nothing.
+use Prim.Native.Nat.{ℕ, zero, suc, _+_, _<_, _≤_}
+use native.Mathlib.Omega.{arith}
+use native.Mathlib.Decide.{decLt}
 use mathlib.Core.Path.{_≡_, refl}
 use mathlib.Core.List.{List, [], _∷_, map}
 use lib.ListN.{length, getD}
 use Rattle.lists.specs.Select.{upFrom, range, tabulate, filter, indexOf, insertBy, sortBy}
-use Rattle.layout.specs.Ranked.{linesAt}
+use Rattle.lists.proofs.Select.{getD-mem}
+use Rattle.layout.specs.Ranked.{linesAt, Ranked}
+use Rattle.layout.proofs.Step.{linesAt-e}
 use Rattle.layout.specs.Columns.{takenPlace, newLeft, newRight, newLast, moved, outgoing, incoming, taken, columnAt, step, columns}
 use Rattle.layout.specs.Points.{Spot, sameSpot, turns, dropRepeats, pointsOf, inner, cornersOf, bottomRows, topRows, row, isBottom, isTop, partSpot, course, spotOf, courseOf}
 
-abbrev by : List ℕ → ℕ → ℕ
+abbrev pub by : List ℕ → ℕ → ℕ
 by l i = getD l i 0
 
 abbrev at : ℕ → ℕ → Spot
@@ -33,10 +38,10 @@ c-lowers = 0 ∷ 0 ∷ 1 ∷ 2 ∷ 0 ∷ []
 abbrev c-uppers : List ℕ
 c-uppers = 2 ∷ 1 ∷ 2 ∷ 3 ∷ 3 ∷ []
 
-abbrev d-lowers : List ℕ
+abbrev pub d-lowers : List ℕ
 d-lowers = 0 ∷ 0 ∷ 0 ∷ 0 ∷ 1 ∷ 1 ∷ 1 ∷ 2 ∷ 2 ∷ 3 ∷ []
 
-abbrev d-uppers : List ℕ
+abbrev pub d-uppers : List ℕ
 d-uppers = 1 ∷ 2 ∷ 3 ∷ 4 ∷ 2 ∷ 3 ∷ 4 ∷ 3 ∷ 4 ∷ 4 ∷ []
 
 record Worked : Type 0 where
@@ -61,3 +66,67 @@ worked = record {
     d-spots = refl;
     d-line-3 = refl
   }
+
+-- what holds of each of D's ten lines
+each-line :
+    (P : ℕ → Type 0) → P 0 × P 1 × P 2 × P 3 × P 4 × P 5 × P 6 × P 7 × P 8 × P 9 → (i : ℕ) → i < 10 → P i
+each-line P t zero h = t .0
+each-line P t (suc zero) h = t .1
+each-line P t (suc (suc zero)) h = t .2
+each-line P t (suc (suc (suc zero))) h = t .3
+each-line P t (suc (suc (suc (suc zero)))) h = t .4
+each-line P t (suc (suc (suc (suc (suc zero))))) h = t .5
+each-line P t (suc (suc (suc (suc (suc (suc zero)))))) h = t .6
+each-line P t (suc (suc (suc (suc (suc (suc (suc zero))))))) h = t .7
+each-line P t (suc (suc (suc (suc (suc (suc (suc (suc zero)))))))) h = t .8
+each-line P t (suc (suc (suc (suc (suc (suc (suc (suc (suc zero))))))))) h = t .9
+each-line P t (suc (suc (suc (suc (suc (suc (suc (suc (suc (suc i)))))))))) h = absurd (omega arith)
+
+-- no line is at a rank that none has
+no-line : (m : ℕ) (rank : ℕ → ℕ) (k : ℕ) → ((i : ℕ) → i < m → rank i < k) → length (linesAt m rank k) ≡ 0
+no-line m rank k below = go (decLt 0 (length (linesAt m rank k)))
+  where
+    go : Dec (0 < length (linesAt m rank k)) → length (linesAt m rank k) ≡ 0
+    go (yes h) =
+        let c = linesAt-e m rank k (getD-mem (linesAt m rank k) 0 0 h) in
+        absurd (omega (arith, below _ (c .0), c .1))
+    go (no h) = omega arith
+
+d-rises : (i : ℕ) → i < 10 → by d-lowers i < by d-uppers i
+d-rises = each-line (λ i. by d-lowers i < by d-uppers i) (omega arith)
+
+d-inside : (i : ℕ) → i < 10 → by d-uppers i < 5
+d-inside = each-line (λ i. by d-uppers i < 5) (omega arith)
+
+d-entered : (k : ℕ) → 0 < k → k < 5 → (i : ℕ) × (i < 10) × (by d-uppers i ≡ k)
+d-entered zero h g = absurd (omega arith)
+d-entered (suc zero) h g = (0, omega arith, refl)
+d-entered (suc (suc zero)) h g = (1, omega arith, refl)
+d-entered (suc (suc (suc zero))) h g = (2, omega arith, refl)
+d-entered (suc (suc (suc (suc zero)))) h g = (3, omega arith, refl)
+d-entered (suc (suc (suc (suc (suc k))))) h g = absurd (omega arith)
+
+d-continued : (k : ℕ) → suc k < 5 → (i : ℕ) × (i < 10) × (by d-lowers i ≡ k)
+d-continued zero g = (0, omega arith, refl)
+d-continued (suc zero) g = (4, omega arith, refl)
+d-continued (suc (suc zero)) g = (7, omega arith, refl)
+d-continued (suc (suc (suc zero))) g = (9, omega arith, refl)
+d-continued (suc (suc (suc (suc k)))) g = absurd (omega arith)
+
+d-four : (k : ℕ) → length (linesAt 10 (by d-lowers) k) + length (linesAt 10 (by d-uppers) k) ≤ 4
+unfolding upFrom range filter linesAt
+d-four zero = omega arith
+d-four (suc zero) = omega arith
+d-four (suc (suc zero)) = omega arith
+d-four (suc (suc (suc zero))) = omega arith
+d-four (suc (suc (suc (suc zero)))) = omega arith
+d-four (suc (suc (suc (suc (suc k))))) =
+    let r = suc (suc (suc (suc (suc k)))) in
+    omega (
+      arith,
+      no-line 10 (by d-lowers) r (λ i h. omega (arith, d-rises i h, d-inside i h)),
+      no-line 10 (by d-uppers) r (λ i h. omega (arith, d-inside i h)),
+    )
+
+pub d-ranked : Ranked 5 10 (by d-lowers) (by d-uppers)
+d-ranked = record { rises = d-rises; inside = d-inside; entered = d-entered; continued = d-continued; four = d-four }

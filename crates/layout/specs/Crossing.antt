@@ -3,9 +3,9 @@ use Prim.Native.Nat.{ℕ, zero, suc, _+_, _-_, min, max}
 use mathlib.Core.Bool.{Bool, true, false, not, _&&_, _||_}
 use mathlib.Core.List.{List, [], _∷_}
 use lib.ListN.{length}
-use lib.Dec.{eqb, leb}
+use lib.Dec.{eqb, leb, ltb}
 use Rattle.lists.specs.Select.{any, range}
-use Rattle.layout.specs.Points.{Spot, sameSpot}
+use Rattle.layout.specs.Points.{Spot, sameSpot, Course}
 use Rattle.layout.specs.Lines.{point}
 
 unfoldable pub between : Spot → Spot → Spot → Bool
@@ -29,3 +29,8 @@ crossesOver ps qs = any (λ k. any (λ l. runsCross ps k qs l) (range (length qs
 -- 'their lines cross where they have one'
 unfoldable pub linesCross : List Spot → List Spot → Bool
 linesCross ps qs = crossesOver ps qs || crossesOver qs ps
+
+-- The same as a test on numbers, for courses of one drawing: the upper level run of c over the column of d.
+unfoldable pub over : Course → Course → Bool
+over c d =
+    ltb (d .low) (c .high) && ltb (c .high) (d .high) && ltb (min (c .column) (c .to .x)) (d .column) && ltb (d .column) (max (c .column) (c .to .x))

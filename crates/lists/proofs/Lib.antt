@@ -1,0 +1,7 @@
+-- Laws of lists that every crate cites.
+pub mod Bools
+pub mod Any
+pub mod Increasing
+pub mod Select
+pub mod Sort
+pub mod Fill
