@@ -1,10 +1,16 @@
--- Laws of the layout: what its construction establishes (Facts, by Placed), and what follows of meetings (Meet) and crossings (Cross).
+-- Laws of the layout: what its construction establishes (Facts, by Placed), its sizes (Sizes), and what follows of meetings (Meet) and crossings (Cross).
 pub mod Facts
 pub mod Step
 pub mod Moved
 pub mod Ports
 pub mod Invariant
 pub mod Placed
+pub mod NewColumns
+pub mod Width
+pub mod Own
+pub mod Turns
+pub mod Rows
+pub mod Sizes
 pub mod Segments
 pub mod Line
 pub mod Place

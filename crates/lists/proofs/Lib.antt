@@ -4,4 +4,6 @@ pub mod Any
 pub mod Increasing
 pub mod Select
 pub mod Sort
+pub mod Tests
+pub mod Sums
 pub mod Fill

@@ -45,6 +45,11 @@ unfoldable pub count : {A : Type 0} → (A → Bool) → List A → ℕ
 count p [] = 0
 count p (x ∷ xs) = oneIf (p x) + count p xs
 
+-- of a list of numbers, all added
+unfoldable pub sum : List ℕ → ℕ
+sum [] = 0
+sum (x ∷ xs) = x + sum xs
+
 -- the list without x
 unfoldable pub without : ℕ → List ℕ → List ℕ
 without x l = filter (λ y. not (eqb x y)) l
