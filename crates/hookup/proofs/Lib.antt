@@ -1,1 +1,12 @@
+-- Document 01's table, and the demands proved of the definitions: a sheet reads back as its drawing (ReadBack), the drawing has the meetings (Drawn) and
+-- sizes (DrawnSizes) of its layout, its rows are the order (Rows); so demands 2 and 3 hold of the words (Demand3).
+pub mod ReadBack
+pub mod WordCounts
+pub mod Renaming
+pub mod Laid
+pub mod Drawn
+pub mod DrawnSizes
+pub mod Rows
+pub mod Demand3
 pub mod Table
+pub mod Triangle

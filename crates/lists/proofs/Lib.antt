@@ -4,6 +4,12 @@ pub mod Any
 pub mod Increasing
 pub mod Select
 pub mod Sort
+pub mod Rising
 pub mod Tests
 pub mod Sums
+pub mod Sets
+pub mod Seek
+pub mod Tally
+pub mod Places
+pub mod Maps
 pub mod Fill

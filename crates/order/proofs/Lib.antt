@@ -1,1 +1,14 @@
+-- Laws of paths, of checks 9 and 10 and of the order. Assumes nothing.
 pub mod Worked
+pub mod Joins
+pub mod Paths
+pub mod Reach
+pub mod Checks
+pub mod Weak
+pub mod Candidates
+pub mod Completion
+pub mod StOrder
+pub mod Rule
+pub mod Ranks
+pub mod Passed
+pub mod Triangle

@@ -1,0 +1,213 @@
+-- Ranks and parts are each other's inverse, and the cables in ranks are what the layout asks for. Assumes nothing.
+use Prim.Native.Nat.{ℕ, zero, suc, _+_, _<_, _≤_, min, max}
+use native.Mathlib.Omega.{arith}
+use native.Mathlib.Decide.{ℕ-discrete, decLt}
+use mathlib.Core.Path.{_≡_, refl, sym, ap, _∙_, subst}
+use mathlib.Core.Logic.{_⊎_, inl, inr}
+use mathlib.Core.Bool.{Bool, true, _||_}
+use lib.ListN.{length, getD}
+use lib.Dec.{eqb}
+use borrow.Author.Tests.{eq-eqb, ne-eqb}
+use Rattle.lists.specs.Select.{range, oneIf, count}
+use Rattle.lists.proofs.Select.{length-filter, indexOf-below, getD-indexOf, indexOf-getD}
+use Rattle.lists.proofs.Bools.{or-right}
+use Rattle.lists.proofs.Sums.{count-none}
+use Rattle.lists.proofs.Tally.{count-places, count-two}
+use Rattle.station.specs.Station.{Cable, Station, joins, degree}
+use Rattle.station.proofs.Passed.{Wired}
+use Rattle.layout.specs.Ranked.{linesAt, Ranked}
+use Rattle.order.specs.Reach.{Joined}
+use Rattle.order.specs.Order.{order, rankIn}
+use Rattle.order.specs.StOrder.{StOrdering}
+use Rattle.order.specs.Ends.{noCable, lowerRank, upperRank}
+use Rattle.order.proofs.Joins.{cableAt, Between, Lined, joined-line, joined-sym}
+use Rattle.order.proofs.Weak.{Orderable}
+use Rattle.order.proofs.StOrder.{order-ordering, order-mem, order-distinct}
+
+-- Of two different ranks a and b at most one is k, and it passes its test.
+ends-once : (a b k : ℕ) (x y : Bool) → (a ≡ b → ⊥) → (a ≡ k → x ≡ true) → (b ≡ k → y ≡ true)
+    → oneIf (eqb (min a b) k) + oneIf (eqb (max a b) k) ≤ oneIf (x || y)
+ends-once a b k x y n f g = go (ℕ-discrete (min a b) k) (ℕ-discrete (max a b) k)
+  where
+    some : Dec (a ≡ k) → (min a b ≡ k) ⊎ (max a b ≡ k) → (x || y) ≡ true
+    some (yes e) h = rw (f e) refl
+    some (no d) (inl h) = or-right x y (g (omega arith))
+    some (no d) (inr h) = or-right x y (g (omega arith))
+
+    go : Dec (min a b ≡ k) → Dec (max a b ≡ k) → oneIf (eqb (min a b) k) + oneIf (eqb (max a b) k) ≤ oneIf (x || y)
+    go (yes p) (yes q) = absurd (n (omega arith))
+    go (yes p) (no q) = rw (eq-eqb (min a b) k p, ne-eqb (max a b) k q, some (ℕ-discrete a k) (inl p)) (omega arith)
+    go (no p) (yes q) = rw (ne-eqb (min a b) k p, eq-eqb (max a b) k q, some (ℕ-discrete a k) (inr q)) (omega arith)
+    go (no p) (no q) = rw (ne-eqb (min a b) k p, ne-eqb (max a b) k q) (omega arith)
+
+module _ (st : Station) (H : Orderable st) where
+  O : StOrdering st (order st)
+  O = order-ordering st H
+
+  pub rank-below : (p : ℕ) → p < st .parts → rankIn (order st) p < st .parts
+  unfolding rankIn
+  rank-below p l = omega (arith, indexOf-below (order st) (order-mem st H p l), O .all)
+
+  pub part-of-rank : (p : ℕ) → p < st .parts → getD (order st) (rankIn (order st) p) 0 ≡ p
+  unfolding rankIn
+  part-of-rank p l = getD-indexOf (order st) 0 (order-mem st H p l)
+
+  pub rank-of-part : (k : ℕ) → k < st .parts → rankIn (order st) (getD (order st) k 0) ≡ k
+  unfolding rankIn
+  rank-of-part k l = indexOf-getD (order st) k 0 (order-distinct st H) (omega (arith, O .all))
+
+  pub rank-one : (p q : ℕ) → p < st .parts → q < st .parts → rankIn (order st) p ≡ rankIn (order st) q → p ≡ q
+  rank-one p q l m e = sym (part-of-rank p l) ∙ ap (λ (k : ℕ). getD (order st) k 0) e ∙ part-of-rank q m
+
+  -- 's has rank 0', 't comes last'
+  pub rank-source : rankIn (order st) (st .source) ≡ 0
+  rank-source = ap (rankIn (order st)) (sym (O .first)) ∙ rank-of-part 0 (omega (arith, H .source))
+
+  pub rank-analyser : suc (rankIn (order st) (st .analyser)) ≡ st .parts
+  rank-analyser = go (st .parts) refl
+    where
+      go : (n : ℕ) → st .parts ≡ n → suc (rankIn (order st) (st .analyser)) ≡ st .parts
+      go zero e = absurd (omega (arith, H .analyser))
+      go (suc k) e = ap (λ (p : ℕ). suc (rankIn (order st) p)) (sym (O .last k (sym e))) ∙ ap suc (rank-of-part k (omega arith)) ∙ sym e
+
+  -- the cable of a line between two parts, in ranks
+  between-ranks : (i u v : ℕ) → Between (cableAt (st .cables) i) u v
+      → (lowerRank (order st) (st .cables) i ≡ min (rankIn (order st) u) (rankIn (order st) v)) × (upperRank (order st) (st .cables) i ≡ max (rankIn (order st) u) (rankIn (order st) v))
+  unfolding lowerRank upperRank
+  between-ranks i u v (inl b) = (rw (b .0, b .1) refl, rw (b .0, b .1) refl)
+  between-ranks i u v (inr b) = rw (b .0, b .1) (omega arith)
+
+  module _ (W : Wired st) where
+    lower : ℕ → ℕ
+    lower = lowerRank (order st) (st .cables)
+
+    upper : ℕ → ℕ
+    upper = upperRank (order st) (st .cables)
+
+    -- ranks whose parts are joined are the ranks of some cable
+    line-between : (j k : ℕ) → j < k → k < st .parts → Joined (st .cables) (getD (order st) k 0) (getD (order st) j 0)
+        → (i : ℕ) × (i < length (st .cables)) × (lower i ≡ j) × (upper i ≡ k)
+    unfolding lower upper
+    line-between j k h l c =
+        let i : Lined (st .cables) (getD (order st) k 0) (getD (order st) j 0) = joined-line (st .cables) (getD (order st) k 0) (getD (order st) j 0) c in
+        let r : rankIn (order st) (getD (order st) k 0) ≡ k = rank-of-part k l in
+        let q : rankIn (order st) (getD (order st) j 0) ≡ j = rank-of-part j (omega arith) in
+        let b : (lowerRank (order st) (st .cables) (i .0) ≡ min (rankIn (order st) (getD (order st) k 0)) (rankIn (order st) (getD (order st) j 0)))
+        × (upperRank (order st) (st .cables) (i .0) ≡ max (rankIn (order st) (getD (order st) k 0)) (rankIn (order st) (getD (order st) j 0))) =
+        between-ranks (i .0) (getD (order st) k 0) (getD (order st) j 0) (i .2) in
+        (i .0, i .1, omega arith, omega arith)
+
+    rises : (i : ℕ) → i < length (st .cables) → lower i < upper i
+    unfolding lower upper lowerRank upperRank
+    rises i l =
+        apart (rankIn (order st) (cableAt (st .cables) i .one)) (rankIn (order st) (cableAt (st .cables) i .other))
+        (λ e. W .loopless i noCable l (rank-one (cableAt (st .cables) i .one) (cableAt (st .cables) i .other) (w .0) (w .1) e))
+      where
+        w : (cableAt (st .cables) i .one < st .parts) × (cableAt (st .cables) i .other < st .parts)
+        w = H .within i l
+
+        apart : (a b : ℕ) → (a ≡ b → ⊥) → min a b < max a b
+        apart a b n = omega arith
+
+    inside : (i : ℕ) → i < length (st .cables) → upper i < st .parts
+    unfolding upper upperRank
+    inside i l =
+        below (rankIn (order st) (cableAt (st .cables) i .one)) (rankIn (order st) (cableAt (st .cables) i .other))
+        (rank-below (cableAt (st .cables) i .one) (H .within i l .0)) (rank-below (cableAt (st .cables) i .other) (H .within i l .1))
+      where
+        below : (a b : ℕ) → a < st .parts → b < st .parts → max a b < st .parts
+        below a b h k = omega arith
+
+    -- Each rank but 0 has a cable from below. The last has the one that its forerunner has upward.
+    entered : (k : ℕ) → 0 < k → k < st .parts → (i : ℕ) × (i < length (st .cables)) × (upper i ≡ k)
+    entered k h l = go (decLt (suc k) (st .parts))
+      where
+        from : (j : ℕ) → j < k → Joined (st .cables) (getD (order st) k 0) (getD (order st) j 0) → (i : ℕ) × (i < length (st .cables)) × (upper i ≡ k)
+        from j m c =
+            let f : (i : ℕ) × (i < length (st .cables)) × (lower i ≡ j) × (upper i ≡ k) = line-between j k m l c in
+            (f .0, f .1, f .3)
+
+        last : (j : ℕ) → suc j ≡ k → (a : ℕ) × (j < a) × (a < st .parts) × Joined (st .cables) (getD (order st) j 0) (getD (order st) a 0)
+            → st .parts ≤ suc k → (i : ℕ) × (i < length (st .cables)) × (upper i ≡ k)
+        last j e f n =
+            let q : f .0 ≡ k = omega (arith, f .1, f .2) in
+            from j (omega arith) (joined-sym (st .cables) (subst (λ (a : ℕ). Joined (st .cables) (getD (order st) j 0) (getD (order st) a 0)) q (f .3)))
+
+        step : (j : ℕ) → suc j ≡ k → st .parts ≤ suc k → (i : ℕ) × (i < length (st .cables)) × (upper i ≡ k)
+        step j e n = last j e (O .after j (omega (arith, W .least)) (omega arith)) n
+
+        pred : (j : ℕ) → j ≡ k → st .parts ≤ suc k → (i : ℕ) × (i < length (st .cables)) × (upper i ≡ k)
+        pred zero e n = absurd (omega arith)
+        pred (suc j) e n = step j e n
+
+        go : Dec (suc k < st .parts) → (i : ℕ) × (i < length (st .cables)) × (upper i ≡ k)
+        go (yes m) = let f : (j : ℕ) × (j < k) × Joined (st .cables) (getD (order st) k 0) (getD (order st) j 0) = O .before k h m in from (f .0) (f .1) (f .2)
+        go (no n) = pred k refl (omega arith)
+
+    -- Each rank but the last has a cable upward. Rank 0 has the one that rank 1 has from below.
+    continued : (k : ℕ) → suc k < st .parts → (i : ℕ) × (i < length (st .cables)) × (lower i ≡ k)
+    continued zero l = first (O .before 1 (omega arith) (omega (arith, W .least)))
+      where
+        first : (j : ℕ) × (j < 1) × Joined (st .cables) (getD (order st) 1 0) (getD (order st) j 0) → (i : ℕ) × (i < length (st .cables)) × (lower i ≡ 0)
+        first f =
+            let g : (i : ℕ) × (i < length (st .cables)) × (lower i ≡ f .0) × (upper i ≡ 1) = line-between (f .0) 1 (f .1) l (f .2) in
+            (g .0, g .1, omega (arith, g .2, f .1))
+    continued (suc k) l = later (O .after (suc k) (omega arith) l)
+      where
+        later : (j : ℕ) × (suc k < j) × (j < st .parts) × Joined (st .cables) (getD (order st) (suc k) 0) (getD (order st) j 0)
+            → (i : ℕ) × (i < length (st .cables)) × (lower i ≡ suc k)
+        later f =
+            let g : (i : ℕ) × (i < length (st .cables)) × (lower i ≡ suc k) × (upper i ≡ f .0) =
+            line-between (suc k) (f .0) (f .1) (f .2) (joined-sym (st .cables) (f .3)) in
+            (g .0, g .1, g .2)
+
+    -- A line with an end of rank k is a cable of its part.
+    one-end : (k : ℕ) → k < st .parts → (i : ℕ) → i < length (st .cables)
+        → oneIf (eqb (lower i) k) + oneIf (eqb (upper i) k) ≤ oneIf (joins (getD (order st) k 0) (cableAt (st .cables) i))
+    unfolding lower upper lowerRank upperRank joins
+    one-end k l i m =
+        ends-once (rankIn (order st) (c .one)) (rankIn (order st) (c .other)) k (eqb (c .one) p) (eqb (c .other) p)
+        (λ e. W .loopless i noCable m (rank-one (c .one) (c .other) (w .0) (w .1) e)) (is (c .one) (w .0)) (is (c .other) (w .1))
+      where
+        c : Cable
+        c = cableAt (st .cables) i
+
+        p : ℕ
+        p = getD (order st) k 0
+
+        w : (c .one < st .parts) × (c .other < st .parts)
+        w = H .within i m
+
+        is : (q : ℕ) → q < st .parts → rankIn (order st) q ≡ k → eqb q p ≡ true
+        is q h e = eq-eqb q p (sym (part-of-rank q h) ∙ ap (λ (j : ℕ). getD (order st) j 0) e)
+
+    by-line : (p : ℕ) → degree (st .cables) p ≡ count (λ i. joins p (cableAt (st .cables) i)) (range (length (st .cables)))
+    unfolding degree
+    by-line p = count-places (joins p) (st .cables) noCable
+
+    four : (k : ℕ) → length (linesAt (length (st .cables)) lower k) + length (linesAt (length (st .cables)) upper k) ≤ 4
+    unfolding linesAt
+    four k = go (decLt k (st .parts))
+      where
+        go : Dec (k < st .parts) → length (linesAt (length (st .cables)) lower k) + length (linesAt (length (st .cables)) upper k) ≤ 4
+        go (yes l) =
+            omega (
+              arith,
+              length-filter (λ i. eqb (lower i) k) (range (length (st .cables))),
+              length-filter (λ i. eqb (upper i) k) (range (length (st .cables))),
+              count-two (λ i. eqb (lower i) k) (λ i. eqb (upper i) k) (λ i. joins (getD (order st) k 0) (cableAt (st .cables) i)) (length (st .cables)) (one-end k l),
+              by-line (getD (order st) k 0),
+              W .four (getD (order st) k 0) (O .inside k l),
+            )
+        go (no n) =
+            omega (
+              arith,
+              length-filter (λ i. eqb (lower i) k) (range (length (st .cables))),
+              length-filter (λ i. eqb (upper i) k) (range (length (st .cables))),
+              count-none (λ i. eqb (lower i) k) (length (st .cables)) (λ i l. ne-eqb (lower i) k (λ e. omega (arith, rises i l, inside i l))),
+              count-none (λ i. eqb (upper i) k) (length (st .cables)) (λ i l. ne-eqb (upper i) k (λ e. omega (arith, inside i l))),
+            )
+
+    pub order-ranked : Ranked (st .parts) (length (st .cables)) (lowerRank (order st) (st .cables)) (upperRank (order st) (st .cables))
+    unfolding lower upper
+    order-ranked = record { rises = rises; inside = inside; entered = entered; continued = continued; four = four }
