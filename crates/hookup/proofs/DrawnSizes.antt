@@ -169,12 +169,16 @@ module _ (st : Station) where
             let q = subst (λ (l : List Spot). (r .1 < length l) × P (point l (r .1))) (points-at st S (r .0) (r .2)) (r .3, r .4) in
             (r .0, r .1, r .2, q .0, q .1)
 
+    part-inside : (p : ℕ) → p < st .parts → (rankSpot st (rankIn (order st) p) .x ≤ drawing st .width) × (rankSpot st (rankIn (order st) p) .y ≤ drawing st .height)
+    part-inside p h = let i = laidOf st S .spots-within (rankIn (order st) p) (rank-below st (S .orderable) p h) in (omega (arith, i .0, width-is), omega (arith, i .1, height-is))
+
     pub drawing-sizes : Sizes st (drawing st) (sheetWords (drawing st))
     drawing-sizes = record {
       x-most = λ i k h. subst (λ (l : List Spot). k < length l → point l k .x ≤ drawing st .width) (points-at st S i h) (λ g. omega (arith, line-inside i k h g, width-is));
       x-reached = let r = reached (λ s. suc (s .x) ≡ width) (laidOf st S .width-spot) in (r .0, r .1, r .2, r .3, omega (arith, r .4, width-is));
       y-most = λ i k h. subst (λ (l : List Spot). k < length l → point l k .y ≤ drawing st .height) (points-at st S i h) (λ g. omega (arith, line-inside i k h g, height-is));
       y-reached = let r = reached (λ s. suc (s .y) ≡ st .parts + below + above) (laidOf st S .height-spot) in (r .0, r .1, r .2, r .3, omega (arith, r .4, height-is));
+      parts-within = λ p h. subst (λ (s : Spot). (s .x ≤ drawing st .width) × (s .y ≤ drawing st .height)) (sym (part-spot st p h)) (part-inside p h);
       width = omega (arith, width-is, laidOf st S .columns-count);
       height = omega (arith, height-is, laidOf st S .bottom-le, laidOf st S .top-le);
       corners = omega (arith, sheet-corners, laidOf st S .bottom-le, laidOf st S .top-le);

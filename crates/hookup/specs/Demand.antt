@@ -49,6 +49,7 @@ pub record Sizes (st : Station) (d : Drawing) (sheet : List ℕ) : Type 0 where
   pub x-reached : (i : ℕ) × (k : ℕ) × (i < length (st .cables)) × (k < length (pointsAt d i)) × (point (pointsAt d i) k .x ≡ d .width)
   pub y-most : (i k : ℕ) → i < length (st .cables) → k < length (pointsAt d i) → point (pointsAt d i) k .y ≤ d .height
   pub y-reached : (i : ℕ) × (k : ℕ) × (i < length (st .cables)) × (k < length (pointsAt d i)) × (point (pointsAt d i) k .y ≡ d .height)
+  pub parts-within : (p : ℕ) → p < st .parts → (spotAt d p .x ≤ d .width) × (spotAt d p .y ≤ d .height)
   -- 'the sheet is exactly m - n + 1 wide, at most n + 1 high'
   pub width : d .width + st .parts ≡ length (st .cables) + 1
   pub height : d .height ≤ st .parts + 1

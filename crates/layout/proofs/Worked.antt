@@ -57,15 +57,15 @@ record Worked : Type 0 where
 worked : Worked
 unfolding upFrom range tabulate filter indexOf insertBy sortBy linesAt takenPlace newLeft newRight newLast moved outgoing incoming taken columnAt step columns sameSpot turns dropRepeats pointsOf inner cornersOf bottomRows topRows row isBottom isTop partSpot course spotOf courseOf
 worked = record {
-    b-line-2 = refl;
-    b-line-3 = refl;
-    c-spots = refl;
-    c-line-0 = refl;
-    c-line-1 = refl;
-    c-line-4 = refl;
-    d-spots = refl;
-    d-line-3 = refl
-  }
+  b-line-2 = refl;
+  b-line-3 = refl;
+  c-spots = refl;
+  c-line-0 = refl;
+  c-line-1 = refl;
+  c-line-4 = refl;
+  d-spots = refl;
+  d-line-3 = refl;
+}
 
 -- what holds of each of D's ten lines
 each-line :

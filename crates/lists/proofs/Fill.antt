@@ -21,10 +21,10 @@ filled-start f row = record { kept = refl; done = λ j h. absurd (omega arith); 
 
 pub filled-next : {f : ℕ → ℕ} {i : ℕ} {before now : List ℕ} (v : ℕ) → Filled f i before now → i < length now → v ≡ f i → Filled f (i + 1) before (set now i v)
 filled-next {f} {i} {before} {now} v F h e = record {
-    kept = length-set now i v ∙ F .kept;
-    done = λ j k. at j k (ℕ-discrete j i);
-    left = λ j k. getD-set-other now i j v 0 (λ q. omega arith) ∙ F .left j (omega arith)
-  }
+  kept = length-set now i v ∙ F .kept;
+  done = λ j k. at j k (ℕ-discrete j i);
+  left = λ j k. getD-set-other now i j v 0 (λ q. omega arith) ∙ F .left j (omega arith);
+}
   where
     at : (j : ℕ) → j < i + 1 → Dec (j ≡ i) → getD (set now i v) j 0 ≡ f j
     at j k (yes q) = ap (λ (x : ℕ). getD (set now i v) x 0) q ∙ getD-set-same now i v 0 h ∙ e ∙ ap f (sym q)
@@ -35,6 +35,7 @@ filled-whole {f} {i} {before} {now} F h = ext-getD 0 now (tabulate i f ++ drop i
   where
     long : length now ≡ length (tabulate i f ++ drop i before)
     long = omega (arith, F .kept, length-append (tabulate i f) (drop i before), length-tabulate i f, length-drop i before)
+
     at : (j : ℕ) → Dec (j < i) → getD now j 0 ≡ getD (tabulate i f ++ drop i before) j 0
     at j (yes q) =
         F .done j q

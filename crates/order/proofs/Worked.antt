@@ -37,11 +37,11 @@ record Worked : Type 0 where
 worked : Worked
 unfolding seek upFrom range member any filter without neighbours endsAt walk unreached null connected check9 check10 candidate firstOr extend order
 worked = record {
-    refusal-9 = refl;
-    refusal-10 = refl;
-    chain-9 = refl;
-    b-9 = refl;
-    b-10 = refl;
-    b-order = refl;
-    c-order = refl
-  }
+  refusal-9 = refl;
+  refusal-10 = refl;
+  chain-9 = refl;
+  b-9 = refl;
+  b-10 = refl;
+  b-order = refl;
+  c-order = refl;
+}

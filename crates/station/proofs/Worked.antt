@@ -26,17 +26,17 @@ record Worked : Type 0 where
 worked : Worked
 unfolding seek count cableOf stationOf joins degree orElse atWhen check1 kindAt misplaced check2 check3 check4 outside check5 check6 sameParts repeated check7 check8 checked verdict8
 worked = record {
-    refusal-1 = refl;
-    refusal-2 = refl;
-    refusal-3 = refl;
-    refusal-4 = refl;
-    refusal-5 = refl;
-    refusal-6 = refl;
-    refusal-7 = refl;
-    refusal-8 = refl;
-    parts-257 = refl;
-    four-cables = refl;
-    triangle = refl;
-    two-before-three = refl;
-    five-before-six = refl
-  }
+  refusal-1 = refl;
+  refusal-2 = refl;
+  refusal-3 = refl;
+  refusal-4 = refl;
+  refusal-5 = refl;
+  refusal-6 = refl;
+  refusal-7 = refl;
+  refusal-8 = refl;
+  parts-257 = refl;
+  four-cables = refl;
+  triangle = refl;
+  two-before-three = refl;
+  five-before-six = refl;
+}
