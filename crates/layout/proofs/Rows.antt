@@ -11,7 +11,8 @@ use lib.ListN.{length, getD}
 use borrow.Author.Tests.{eqb-true, eq-eqb, ne-eqb}
 use Rattle.lists.specs.Select.{range, count, indexOf, oneIf}
 use Rattle.lists.proofs.Select.{getD-mem, Distinct, indexOf-below, indexOf-getD, indexOf-one}
-use Rattle.lists.proofs.Tests.{both-true, oneIf-le}
+use Rattle.lists.proofs.Bools.{and-e}
+use Rattle.lists.proofs.Tests.{oneIf-le}
 use Rattle.lists.proofs.Sums.{count-none, count-one}
 use Rattle.layout.specs.Ranked.{linesAt, Ranked}
 use Rattle.layout.specs.Columns.{outgoing, incoming}
@@ -34,7 +35,7 @@ module _ (m : ℕ) (rank : ℕ → ℕ) (r : ℕ) (l : List ℕ) where
 
   fourth-place : (i : ℕ) → isFourth i ≡ true → (rank i ≡ r) × (indexOf i l ≡ 3)
   unfolding isFourth
-  fourth-place i e = let t = both-true (eqb (rank i) r) (eqb (indexOf i l) 3) e in (eqb-true (rank i) r (t .0), eqb-true (indexOf i l) 3 (t .1))
+  fourth-place i e = let t = and-e (eqb (rank i) r) (eqb (indexOf i l) 3) e in (eqb-true (rank i) r (t .0), eqb-true (indexOf i l) 3 (t .1))
 
   fourth-four : Lines m rank r l → (i : ℕ) → i < m → isFourth i ≡ true → length l ≡ 4
   fourth-four L i h e = let t = fourth-place i e in omega (arith, indexOf-below l (L .every i h (t .0)))

@@ -10,7 +10,8 @@ use lib.ListN.{length, drop, length-take, length-drop, length-append}
 use lib.Seq.{take-at}
 use borrow.Author.Tests.{eqb-true, eq-eqb, ne-eqb}
 use Rattle.lists.specs.Select.{oneIf, consIf}
-use Rattle.lists.proofs.Tests.{both-true, eqb-sym}
+use Rattle.lists.proofs.Bools.{and-e}
+use Rattle.lists.proofs.Tests.{eqb-sym}
 use Rattle.layout.specs.Points.{Spot, Course, sameSpot, turns, dropRepeats, pointsOf, inner, cornersOf}
 
 -- Equal spots
@@ -18,7 +19,7 @@ use Rattle.layout.specs.Points.{Spot, Course, sameSpot, turns, dropRepea
 pub same-spot : (p q : Spot) → sameSpot p q ≡ true → p ≡ q
 unfolding sameSpot
 same-spot p q e =
-    let t = both-true (eqb (p .x) (q .x)) (eqb (p .y) (q .y)) e in
+    let t = and-e (eqb (p .x) (q .x)) (eqb (p .y) (q .y)) e in
     let ex = eqb-true (p .x) (q .x) (t .0) in
     let ey = eqb-true (p .y) (q .y) (t .1) in
     λ i. record { x = ex i; y = ey i }

@@ -8,6 +8,7 @@ pub mod Rising
 pub mod Tests
 pub mod Sums
 pub mod Sets
+pub mod Search
 pub mod Seek
 pub mod Tally
 pub mod Places

@@ -56,8 +56,8 @@ module _ (p : ℕ → Bool) where
   at-nothing : {f : Found} {x : ℕ} → f ≡ At x → f ≡ Nothing → ⊥
   at-nothing {f} {x} a b = let z : _≡_ {A = ℕ} 0 1 = cc in omega arith
 
-  pub seek-at : {x : ℕ} (i k : ℕ) → seek p i k ≡ At x → First p i k x
-  seek-at {x} i k e = go (seek-cases i k)
+  pub seek-found : {x : ℕ} (i k : ℕ) → seek p i k ≡ At x → First p i k x
+  seek-found {x} i k e = go (seek-cases i k)
     where
       go : ((y : ℕ) × (seek p i k ≡ At y) × First p i k y) ⊎ ((seek p i k ≡ Nothing) × None p i k) → First p i k x
       go (inl f) = let q : f .0 ≡ x = cc (f .1) in subst (First p i k) q (f .2)

@@ -6,10 +6,12 @@ use mathlib.Core.List.{List, [], _∷_, _++_, map-append}
 use native.Mathlib.Omega.{arith}
 use native.Mathlib.Nat.{add-zero}
 use native.Mathlib.Decide.{decLt, ℕ-discrete}
+use lib.ListN.{length}
 use lib.Dec.{eqb, ltb}
 use borrow.Author.Tests.{eqb-true, eq-eqb, ne-eqb, lt-ltb, le-ltb}
 use Rattle.lists.specs.Select.{upFrom, range, tabulate, count, sum, oneIf}
-use Rattle.lists.proofs.Tests.{both-true}
+use Rattle.lists.proofs.Bools.{and-e}
+use Rattle.lists.proofs.Tests.{oneIf-le}
 
 pub upFrom-suc : (s k : ℕ) → upFrom s (suc k) ≡ upFrom s k ++ (s + k) ∷ []
 unfolding upFrom
@@ -21,6 +23,11 @@ upFrom-suc s (suc k) =
 pub range-suc : (m : ℕ) → range (suc m) ≡ range m ++ m ∷ []
 unfolding range
 range-suc m = let e : 0 + m ≡ m = omega arith in upFrom-suc 0 m ∙ rw e
+
+pub count-length : {A : Type 0} (p : A → Bool) (l : List A) → count p l ≤ length l
+unfolding count
+count-length p [] = omega arith
+count-length p (x ∷ xs) = omega (arith, oneIf-le (p x), count-length p xs)
 
 pub count-append : {A : Type 0} (q : A → Bool) (l r : List A) → count q (l ++ r) ≡ count q l + count q r
 unfolding count
@@ -125,7 +132,7 @@ module _ (q : ℕ → Bool) (key : ℕ → ℕ) (m : ℕ) where
   each-below (suc N) each =
       let o : OneAt q key m N = each N (omega arith) in
       let t : (q (o .one) && eqb (key (o .one)) N) ≡ true = rw (o .passes, eq-eqb (key (o .one)) N (o .keyed)) refl in
-      let c : count (λ i. q i && eqb (key i) N) (range m) ≡ 1 = count-one (λ i. q i && eqb (key i) N) m (o .one) (o .below) t (λ i l s. let t = both-true (q i) (eqb (key i) N) s in o .only i l (eqb-true (key i) N (t .1)) (t .0)) in
+      let c : count (λ i. q i && eqb (key i) N) (range m) ≡ 1 = count-one (λ i. q i && eqb (key i) N) m (o .one) (o .below) t (λ i l s. let t = and-e (q i) (eqb (key i) N) s in o .only i l (eqb-true (key i) N (t .1)) (t .0)) in
       omega (arith, count-key q key N m, each-below N (λ k l. each k (omega arith)))
 
   -- For each key below N exactly one number passes, and no other passes: N pass.

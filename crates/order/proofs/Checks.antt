@@ -10,7 +10,7 @@ use Rattle.lists.specs.Search.{seek}
 use Rattle.lists.specs.Select.{range, member, without}
 use Rattle.lists.proofs.Select.{range-e, range-i}
 use Rattle.lists.proofs.Sets.{member-i, member-absent, without-e, without-i}
-use Rattle.lists.proofs.Seek.{First, seek-at, seek-nothing, seek-first, seek-none}
+use Rattle.lists.proofs.Seek.{First, seek-found, seek-nothing, seek-first, seek-none}
 use Rattle.station.specs.Station.{Station}
 use Rattle.order.specs.Reach.{Path, unreached, connected, check9, check10}
 use Rattle.order.proofs.Paths.{path-wider}
@@ -54,7 +54,7 @@ module _ (n : ℕ) (p : ℕ → Bool) (Bad Good : ℕ → Type 0) (decides : (x 
       go (inr h) = h .0
 
   at-iff : (x : ℕ) → (seek p 0 n ≡ At x) ↔ Lowest n Bad x
-  at-iff x = (λ e. to (seek-at p 0 n e), λ h. seek-first p 0 n (fro h))
+  at-iff x = (λ e. to (seek-found p 0 n e), λ h. seek-first p 0 n (fro h))
     where
       to : First p 0 n x → Lowest n Bad x
       to f =

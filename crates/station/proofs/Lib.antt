@@ -1,3 +1,9 @@
--- What a pass of checks 1 to 8 means, and document 01's examples at this stage.
-pub mod Passed
+-- Laws of checks 1 to 8 and of the station that a list describes, cited by the proofs of this crate and of later stages. Assumes nothing.
 pub mod Worked
+pub mod Tests
+pub mod Each
+pub mod Chain
+pub mod Cables
+pub mod Counting
+pub mod Repeats
+pub mod Passed

@@ -1,25 +1,39 @@
 -- What passing checks 1 to 8 of document 01 means: of the list's words, and of the station that the list describes. Assumes nothing.
-use Prim.Native.Nat.{ℕ, zero, suc, _+_, _-_, _*_, _<_, _≤_}
+use Prim.Native.Nat.{ℕ, zero, suc, _+_, _*_, _<_, _≤_}
 use native.Mathlib.Omega.{arith}
 use native.Mathlib.Decide.{ℕ-discrete}
 use mathlib.Core.Path.{_≡_, refl, sym, ap, _∙_}
-use mathlib.Core.Logic.{_⊎_, inl, inr}
-use mathlib.Core.Bool.{Bool, true, false, not, _&&_, _||_, false≢true, true≢false}
+use mathlib.Core.Bool.{Bool, true, false, _||_}
 use mathlib.Core.List.{List, [], _∷_}
-use lib.ListN.{length, getD, drop, length-drop, length-map}
-use lib.Seq.{getD-drop}
-use lib.Dec.{eqb, ltb, leb}
-use borrow.Author.Tests.{eqb-true, eqb-false, eq-eqb, ne-eqb, ltb-false, leb-false, not-false}
+use lib.ListN.{length, getD}
+use lib.Dec.{eqb}
+use borrow.Author.Tests.{eqb-true, eq-eqb, ne-eqb}
 use Rattle.lists.specs.declared.Found.{Found}
 use Rattle.lists.specs.declared.Found.the-variants.{At, Nothing}
-use Rattle.lists.specs.Search.{seek, isFound}
 use Rattle.lists.specs.Select.{oneIf, count}
-use Rattle.lists.proofs.Bools.{or-right}
-use Rattle.lists.proofs.Select.{getD-map}
-use Rattle.lists.proofs.Seek.{seek-nothing}
 use Rattle.words.specs.Words.{kindOf, spareOf, firstOf, secondOf, partsOf, cablesOf}
-use Rattle.station.specs.Station.{Cable, Station, cableOf, stationOf, joins, degree}
-use Rattle.station.specs.Checks.{Verdict, passed, refused, orElse, atWhen, check1, kindAt, misplaced, check2, check3, check4, outside, check5, check6, sameParts, repeated, check7, check8, checked, verdict8}
+use Rattle.station.specs.Station.{Cable, Station, stationOf, joins, degree}
+use Rattle.station.specs.Checks.{
+  Verdict,
+  passed,
+  refused,
+  orElse,
+  check1,
+  kindAt,
+  check2,
+  check3,
+  check4,
+  check5,
+  check6,
+  sameParts,
+  check7,
+  check8,
+  checked,
+  verdict8,
+}
+use Rattle.station.proofs.Each.{placed, words-due, parts-between, inside, different, unrepeated, four-cables}
+use Rattle.station.proofs.Cables.{parts-are, source-is, analyser-is, one-of, other-of, cables-count, cable-is}
+use Rattle.station.proofs.Chain.{orElse-refused}
 
 -- none of checks 1 to 8 applies
 pub record Clear (list : List ℕ) : Type 0 where
@@ -57,13 +71,10 @@ pub record Wired (st : Station) : Type 0 where
   pub four : (p : ℕ) → p < st .parts → degree (st .cables) p ≤ 4
   pub few : length (st .cables) + length (st .cables) ≤ 4 * st .parts
 
-passed≢refused : {v : Verdict} {c p : ℕ} → v ≡ passed → v ≡ refused c p → ⊥
-passed≢refused {v} {c} {p} a b = let z : _≡_ {A = ℕ} 0 1 = cc in omega arith
-
 -- a pass is a pass of this check and of the later ones
 pub orElse-passed : (c : ℕ) (f : Found) (later : Verdict) → orElse c f later ≡ passed → (f ≡ Nothing) × (later ≡ passed)
 unfolding orElse
-orElse-passed c (At p) later e = absurd (passed≢refused e refl)
+orElse-passed c (At p) later e = let z : _≡_ {A = ℕ} 0 1 = cc in absurd (omega arith)
 orElse-passed c Nothing later e = (refl, e)
 
 -- 'The first that applies is the refusal': a pass is a pass of each.
@@ -91,156 +102,40 @@ pub verdict8-passed : (list : List ℕ) → verdict8 list ≡ passed → Clear l
 unfolding verdict8
 verdict8-passed list e = checked-passed list passed e .0
 
--- Each check in turn
+-- the later checks decide on a list that passes the first eight, and only there
+pub checked-clear : (list : List ℕ) (later : Verdict) → verdict8 list ≡ passed → checked list later ≡ later
+unfolding checked orElse
+checked-clear list later e =
+    let c = verdict8-passed list e in
+    rw (c .clear1, c .clear2, c .clear3, c .clear4, c .clear5, c .clear6, c .clear7, c .clear8)
 
-at≢nothing : {p : ℕ} → At p ≡ Nothing → ⊥
-at≢nothing {p} e = let z : _≡_ {A = ℕ} 0 1 = cc in omega arith
+pub checked-refused : (list : List ℕ) (later : Verdict) (c p : ℕ) → verdict8 list ≡ refused c p → checked list later ≡ refused c p
+unfolding verdict8 checked
+checked-refused list later c p =
+    let r = orElse-refused c p in
+    r 1 (check1 list) _ _
+    (r 2 (check2 list) _ _
+    (r 3 (check3 list) _ _
+    (r 4 (check4 list) _ _
+    (r 5 (check5 list) _ _
+    (r 6 (check6 list) _ _
+    (r 7 (check7 list) _ _
+    (r 8 (check8 list) passed later (λ e. let z : _≡_ {A = ℕ} 0 1 = cc in absurd (omega arith)))))))))
 
-atWhen-nothing : (b : Bool) (place : ℕ) → atWhen b place ≡ Nothing → b ≡ false
-unfolding atWhen
-atWhen-nothing true place e = absurd (at≢nothing e)
-atWhen-nothing false place e = refl
-
-neither : (a b : Bool) → (a || b) ≡ false → (a ≡ false) × (b ≡ false)
-neither true b e = absurd (true≢false e)
-neither false b e = (refl, e)
-
-and-rest : (a b : Bool) → (a && b) ≡ false → a ≡ true → b ≡ false
-and-rest true b e h = e
-and-rest false b e h = absurd (false≢true h)
-
-kind-spare : (k d z : ℕ) → (not (eqb k d) || ((eqb k 2 || eqb k 3) && not (eqb z 0))) ≡ false → (k ≡ d) × ((d ≡ 2) ⊎ (d ≡ 3) → z ≡ 0)
-kind-spare k d z e = (same, clean)
-  where
-    h : (not (eqb k d) ≡ false) × (((eqb k 2 || eqb k 3) && not (eqb z 0)) ≡ false)
-    h = neither (not (eqb k d)) ((eqb k 2 || eqb k 3) && not (eqb z 0)) e
-
-    same : k ≡ d
-    same = eqb-true k d (not-false (eqb k d) (h .0))
-
-    marked : (d ≡ 2) ⊎ (d ≡ 3) → (eqb k 2 || eqb k 3) ≡ true
-    marked (inl q) = rw (eq-eqb k 2 (same ∙ q)) refl
-    marked (inr q) = or-right (eqb k 2) (eqb k 3) (eq-eqb k 3 (same ∙ q))
-
-    clean : (d ≡ 2) ⊎ (d ≡ 3) → z ≡ 0
-    clean q = eqb-true z 0 (not-false (eqb z 0) (and-rest (eqb k 2 || eqb k 3) (not (eqb z 0)) (h .1) (marked q)))
-
-kindAt-later : (i : ℕ) → 1 ≤ i → (kindAt i ≡ 2) ⊎ (kindAt i ≡ 3)
-unfolding kindAt
-kindAt-later i h = go (ℕ-discrete i 1)
-  where
-    go : Dec (i ≡ 1) → (kindAt i ≡ 2) ⊎ (kindAt i ≡ 3)
-    go (yes e) = inl (rw (ne-eqb i 0 (λ q. omega arith), eq-eqb i 1 e) refl)
-    go (no n) = inr (rw (ne-eqb i 0 (λ q. omega arith), ne-eqb i 1 n) refl)
-
-found-false : (f : Found) → isFound f ≡ false → f ≡ Nothing
-found-false (At p) e = absurd (true≢false e)
-found-false Nothing e = refl
-
--- The station's fields, as words
-
-pub parts-are : (list : List ℕ) → stationOf list .parts ≡ partsOf (getD list 0 0)
-unfolding stationOf
-parts-are list = refl
-
-pub source-is : (list : List ℕ) → stationOf list .source ≡ firstOf (getD list 1 0)
-unfolding stationOf
-source-is list = refl
-
-pub analyser-is : (list : List ℕ) → stationOf list .analyser ≡ secondOf (getD list 1 0)
-unfolding stationOf
-analyser-is list = refl
-
-pub cables-count : (list : List ℕ) → length (stationOf list .cables) ≡ length list - 2
-unfolding stationOf
-cables-count list = length-map (drop 2 list) cableOf ∙ length-drop 2 list
-
-pub cable-is : (list : List ℕ) (i : ℕ) (d : Cable) → i < length (stationOf list .cables) → getD (stationOf list .cables) i d ≡ cableOf (getD list (2 + i) 0)
-unfolding stationOf
-cable-is list i d l =
-    getD-map cableOf (drop 2 list) i 0 d (omega (arith, length-map (drop 2 list) cableOf)) ∙ ap cableOf (getD-drop 2 list i 0)
-
-one-of : (w : ℕ) → cableOf w .one ≡ firstOf w
-unfolding cableOf
-one-of w = refl
-
-other-of : (w : ℕ) → cableOf w .other ≡ secondOf w
-unfolding cableOf
-other-of w = refl
-
-module _ (list : List ℕ) (C : Clear list) where
-  -- 2
-  placed : (i : ℕ) → i < length list → (kindOf (getD list i 0) ≡ kindAt i) × (1 ≤ i → spareOf (getD list i 0) ≡ 0)
-  unfolding check2 misplaced
-  placed i l =
-      let f : (kindOf (getD list i 0) ≡ kindAt i) × ((kindAt i ≡ 2) ⊎ (kindAt i ≡ 3) → spareOf (getD list i 0) ≡ 0) =
-      kind-spare (kindOf (getD list i 0)) (kindAt i) (spareOf (getD list i 0))
-      (seek-nothing (λ j. misplaced j (getD list j 0)) 0 (length list) (C .clear2) i (omega arith) (omega arith)) in
-      (f .0, λ h. f .1 (kindAt-later i h))
-
-  -- 3
-  words-right : length list ≡ cablesOf (getD list 0 0) + 2
-  unfolding check3
-  words-right =
-      let due : ℕ = cablesOf (getD list 0 0) + 2 in
-      eqb-true (length list) due (not-false (eqb (length list) due) (atWhen-nothing (not (eqb (length list) due)) due (C .clear3)))
-
-  -- 4
-  parts-right : (3 ≤ partsOf (getD list 0 0)) × (partsOf (getD list 0 0) ≤ 256)
-  unfolding check4
-  parts-right =
-      let n : ℕ = partsOf (getD list 0 0) in
-      let h : (ltb n 3 ≡ false) × (ltb 256 n ≡ false) = neither (ltb n 3) (ltb 256 n) (atWhen-nothing (ltb n 3 || ltb 256 n) n (C .clear4)) in
-      (ltb-false n 3 (h .0), ltb-false 256 n (h .1))
-
-  -- 5
-  inside : (i : ℕ) → 1 ≤ i → i < length list → (firstOf (getD list i 0) < partsOf (getD list 0 0)) × (secondOf (getD list i 0) < partsOf (getD list 0 0))
-  unfolding check5 outside
-  inside i a l =
-      let n : ℕ = partsOf (getD list 0 0) in
-      let w : ℕ = getD list i 0 in
-      let h : (leb n (firstOf w) ≡ false) × (leb n (secondOf w) ≡ false) =
-      neither (leb n (firstOf w)) (leb n (secondOf w))
-      (seek-nothing (λ j. outside n (getD list j 0)) 1 (length list - 1) (C .clear5) i a (omega arith)) in
-      (leb-false n (firstOf w) (h .0), leb-false n (secondOf w) (h .1))
-
-  -- 6
-  different : (i : ℕ) → 1 ≤ i → i < length list → firstOf (getD list i 0) ≡ secondOf (getD list i 0) → ⊥
-  unfolding check6
-  different i a l =
-      eqb-false (firstOf (getD list i 0)) (secondOf (getD list i 0))
-      (seek-nothing (λ j. eqb (firstOf (getD list j 0)) (secondOf (getD list j 0))) 1 (length list - 1) (C .clear6) i a (omega arith))
-
-  -- 7
-  unrepeated : (i j : ℕ) → 2 ≤ i → i < j → j < length list → sameParts (getD list i 0) (getD list j 0) ≡ false
-  unfolding check7 repeated
-  unrepeated i j a b l =
-      seek-nothing (λ k. sameParts (getD list k 0) (getD list j 0)) 2 (j - 2)
-      (found-false (seek (λ k. sameParts (getD list k 0) (getD list j 0)) 2 (j - 2))
-      (seek-nothing (repeated list) 2 (length list - 2) (C .clear7) j (omega arith) (omega arith)))
-      i a (omega arith)
-
-  -- 8
-  four-cables : (p : ℕ) → p < partsOf (getD list 0 0) → degree (stationOf list .cables) p ≤ 4
-  unfolding check8
-  four-cables p l =
-      ltb-false 4 (degree (stationOf list .cables) p)
-      (seek-nothing (λ q. ltb 4 (degree (stationOf list .cables) q)) 0 (stationOf list .parts) (C .clear8) p (omega arith) (omega (arith, parts-are list)))
-
-  pub passed-words : Passed list
-  passed-words =
-      record {
-        words = words-right;
-        kinds = λ i l. placed i l .0;
-        spare = λ i a l. placed i l .1 a;
-        least = parts-right .0;
-        most = parts-right .1;
-        first = λ i a l. inside i a l .0;
-        second = λ i a l. inside i a l .1;
-        differ = different;
-        once = unrepeated;
-        four = four-cables;
-      }
+pub passed-words : (list : List ℕ) → Clear list → Passed list
+passed-words list C =
+    record {
+      words = words-due list (C .clear3);
+      kinds = λ i l. placed list (C .clear2) i l .0;
+      spare = λ i a l. placed list (C .clear2) i l .1 a;
+      least = parts-between list (C .clear4) .0;
+      most = parts-between list (C .clear4) .1;
+      first = λ i a l. inside list (C .clear5) i a l .0;
+      second = λ i a l. inside list (C .clear5) i a l .1;
+      differ = different list (C .clear6);
+      once = unrepeated list (C .clear7);
+      four = λ p l. four-cables list (C .clear8) p (omega (arith, parts-are list));
+    }
 
 -- The sum of the parts' cables, each counted at both ends
 

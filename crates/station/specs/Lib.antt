@@ -1,3 +1,4 @@
 -- The station that a list describes, and checks 1 to 8 of document 01. Assumes nothing.
 pub mod Station
 pub mod Checks
+pub mod Answer

@@ -1,0 +1,76 @@
+-- The tests of checks 1 to 8, from the facts that the code's branches leave. Assumes nothing.
+use Prim.Native.Nat.{ℕ, _+_, _≤_, _<_}
+use mathlib.Core.Path.{_≡_, refl, _∙_}
+use mathlib.Core.Bool.{Bool, true, false, cond, not, _||_}
+use native.Mathlib.Omega.{arith}
+use borrow.Author.Tests.{eq-eqb, ne-eqb, lt-ltb, le-ltb, le-leb, lt-leb}
+use mathlib.Core.List.{List}
+use lib.ListN.{length, getD}
+use lib.Dec.{eqb, ltb, leb}
+use Rattle.lists.specs.declared.Found.the-variants.{At, Nothing}
+use Rattle.words.specs.Words.{kindOf, spareOf, firstOf, secondOf, partsOf, cablesOf, listHead, ends, cable}
+use Rattle.station.specs.Checks.{atWhen, kindAt, misplaced, check3, check4, outside}
+
+-- ---- check 2
+pub misplaced-kind : (i w : ℕ) → (kindOf w ≡ kindAt i → ⊥) → true ≡ misplaced i w
+unfolding misplaced
+misplaced-kind i w h = rw (ne-eqb (kindOf w) (kindAt i) h)
+
+pub misplaced-head : (i w : ℕ) → kindOf w ≡ kindAt i → kindOf w ≡ listHead → false ≡ misplaced i w
+unfolding misplaced
+misplaced-head i w h e =
+    rw (eq-eqb (kindOf w) (kindAt i) h, ne-eqb (kindOf w) ends (λ z. omega arith), ne-eqb (kindOf w) cable (λ z. omega arith))
+
+kindAt-ends : (i : ℕ) → (kindAt i ≡ listHead → ⊥) → (eqb (kindAt i) ends || eqb (kindAt i) cable) ≡ true
+unfolding kindAt
+kindAt-ends i h = go (eqb i 0) (eqb i 1) h
+  where
+    go : (a b : Bool) → (cond a listHead (cond b ends cable) ≡ listHead → ⊥)
+        → (eqb (cond a listHead (cond b ends cable)) ends || eqb (cond a listHead (cond b ends cable)) cable) ≡ true
+    go true b k = absurd (k refl)
+    go false true k = refl
+    go false false k = refl
+
+pub misplaced-spare : (i w : ℕ) → kindOf w ≡ kindAt i → (kindOf w ≡ listHead → ⊥) → not (eqb (spareOf w) 0) ≡ misplaced i w
+unfolding misplaced
+misplaced-spare i w h n =
+    let e : (eqb (kindOf w) ends || eqb (kindOf w) cable) ≡ true = rw h (kindAt-ends i (λ z. n (h ∙ z))) in
+    rw (eq-eqb (kindOf w) (kindAt i) h, e)
+
+-- ---- checks 3 and 4
+module _ (list : List ℕ) where
+  pub length-off : (length list ≡ cablesOf (getD list 0 0) + 2 → ⊥) → At (cablesOf (getD list 0 0) + 2) ≡ check3 list
+  unfolding check3 atWhen
+  length-off h = rw (ne-eqb (length list) (cablesOf (getD list 0 0) + 2) h)
+
+  pub length-right : length list ≡ cablesOf (getD list 0 0) + 2 → Nothing ≡ check3 list
+  unfolding check3 atWhen
+  length-right h = rw (eq-eqb (length list) (cablesOf (getD list 0 0) + 2) h)
+
+  pub parts-few : partsOf (getD list 0 0) < 3 → At (partsOf (getD list 0 0)) ≡ check4 list
+  unfolding check4 atWhen
+  parts-few h = rw (lt-ltb (partsOf (getD list 0 0)) 3 h)
+
+  pub parts-many : 256 < partsOf (getD list 0 0) → At (partsOf (getD list 0 0)) ≡ check4 list
+  unfolding check4 atWhen
+  parts-many h = rw (le-ltb (partsOf (getD list 0 0)) 3 (omega arith), lt-ltb 256 (partsOf (getD list 0 0)) h)
+
+  pub parts-right : 3 ≤ partsOf (getD list 0 0) → partsOf (getD list 0 0) ≤ 256 → Nothing ≡ check4 list
+  unfolding check4 atWhen
+  parts-right h k = rw (le-ltb (partsOf (getD list 0 0)) 3 h, le-ltb 256 (partsOf (getD list 0 0)) k)
+
+-- ---- check 5
+pub outside-first : (n w : ℕ) → n ≤ firstOf w → true ≡ outside n w
+unfolding outside
+outside-first n w h = rw (le-leb n (firstOf w) h)
+
+pub outside-second : (n w : ℕ) → firstOf w < n → leb n (secondOf w) ≡ outside n w
+unfolding outside
+outside-second n w h = rw (lt-leb n (firstOf w) h)
+
+-- ---- check 8
+pub over-four : (x d : ℕ) → x ≡ d → 4 < x → ltb 4 d ≡ true
+over-four x d e h = lt-ltb 4 d (omega arith)
+
+pub up-to-four : (x d : ℕ) → x ≡ d → x ≤ 4 → ltb 4 d ≡ false
+up-to-four x d e h = le-ltb 4 d (omega arith)
