@@ -20,14 +20,14 @@ use Rattle.hookup.specs.Demand.{Demand3, Ordered}
 use Rattle.hookup.proofs.Table.{triangle}
 use Rattle.hookup.proofs.Demand3.{demand3, ordered}
 
-abbrev nine : List ℕ
+abbrev pub nine : List ℕ
 nine = 0x40001002 ∷ 0x50000000 ∷ 0x50000001 ∷ 0x50000002 ∷ 0x60000000 ∷ 0x60001000 ∷ 0x60002002 ∷ 0x70001000 ∷ 0x70001002 ∷ []
 
-triangle-passes : verdict10 triangle ≡ passed
+pub triangle-passes : verdict10 triangle ≡ passed
 unfolding seek upFrom range member filter count without stationOf cableOf joins degree orElse atWhen check1 kindAt misplaced check2 check3 check4 outside check5 check6 sameParts repeated check7 check8 checked neighbours endsAt walk unreached null connected check9 check10 verdict10
 triangle-passes = refl
 
-triangle-words : sheetWords (drawing (stationOf triangle)) ≡ nine
+pub triangle-words : sheetWords (drawing (stationOf triangle)) ≡ nine
 unfolding upFrom range tabulate member any filter without indexOf insertBy sortBy stationOf cableOf neighbours endsAt walk unreached null connected candidate firstOr extend order rankIn lowerRank upperRank lowerPart upperPart linesAt takenPlace newLeft newRight newLast moved outgoing incoming taken columnAt step columns sameSpot turns dropRepeats pointsOf inner cornersOf bottomRows topRows row isBottom isTop partSpot course drawingIn drawingBy drawing partSpotWord cornerSpotWord routeWords routesWords sheetWords
 triangle-words = refl
 

@@ -14,3 +14,4 @@ pub mod Tally
 pub mod Places
 pub mod Maps
 pub mod Fill
+pub mod Stores
