@@ -1,4 +1,5 @@
--- Laws of the layout: what its construction establishes (Facts, by Placed), its sizes (Sizes), and what follows of meetings (Meet) and crossings (Cross).
+-- Laws of the layout: what its construction establishes (Facts, by Placed), its sizes (Sizes), what follows of meetings (Meet) and crossings (Cross),
+-- and what the code's loops keep (Insertion to Lanes).
 pub mod Facts
 pub mod Step
 pub mod Moved
@@ -17,4 +18,10 @@ pub mod Place
 pub mod Meet
 pub mod Maps
 pub mod Cross
+pub mod Insertion
+pub mod Collecting
+pub mod Bounds
+pub mod Next
+pub mod Turning
+pub mod Lanes
 pub mod Worked

@@ -25,11 +25,11 @@ same-spot p q e =
     λ i. record { x = ex i; y = ey i }
 
 -- of two spots in one column, and of two in one row
-same-column : (x y z : ℕ) → sameSpot (record { x = x; y = y }) (record { x = x; y = z }) ≡ eqb y z
+pub same-column : (x y z : ℕ) → sameSpot (record { x = x; y = y }) (record { x = x; y = z }) ≡ eqb y z
 unfolding sameSpot
 same-column x y z = rw (eq-eqb x x refl) refl
 
-same-row : (x y z : ℕ) → sameSpot (record { x = x; y = z }) (record { x = y; y = z }) ≡ eqb x y
+pub same-row : (x y z : ℕ) → sameSpot (record { x = x; y = z }) (record { x = y; y = z }) ≡ eqb x y
 unfolding sameSpot
 same-row x y z = rw (eq-eqb z z refl) (and-true (eqb x y))
 

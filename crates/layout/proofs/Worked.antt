@@ -9,6 +9,7 @@ use lib.ListN.{length, getD}
 use Rattle.lists.specs.Select.{upFrom, range, tabulate, filter, indexOf, insertBy, sortBy}
 use Rattle.lists.proofs.Select.{getD-mem}
 use Rattle.layout.specs.Ranked.{linesAt, Ranked}
+use Rattle.layout.specs.Standing.{Given}
 use Rattle.layout.proofs.Step.{linesAt-e}
 use Rattle.layout.specs.Columns.{takenPlace, newLeft, newRight, newLast, moved, outgoing, incoming, taken, columnAt, step, columns}
 use Rattle.layout.specs.Points.{Spot, sameSpot, turns, dropRepeats, pointsOf, inner, cornersOf, bottomRows, topRows, row, isBottom, isTop, partSpot, course, spotOf, courseOf}
@@ -130,3 +131,7 @@ d-four (suc (suc (suc (suc (suc k))))) =
 
 pub d-ranked : Ranked 5 10 (by d-lowers) (by d-uppers)
 d-ranked = record { rises = d-rises; inside = d-inside; entered = d-entered; continued = d-continued; four = d-four }
+
+-- what the code of the layout asks
+pub d-given : Given 5 d-lowers d-uppers
+d-given = record { ranked = d-ranked; lines = refl; parts = omega arith }

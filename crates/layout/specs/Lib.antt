@@ -4,3 +4,6 @@ pub mod Columns
 pub mod Points
 pub mod Lines
 pub mod Crossing
+pub mod Readings
+pub mod Standing
+pub mod Courses

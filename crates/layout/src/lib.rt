@@ -1,1 +1,4 @@
 // The layout of a ranked station: columns of parts and cables, and the points of each cable.
+pub mod columns;
+pub mod incident;
+pub mod points;

@@ -1,57 +1,99 @@
--- A row that a loop fills from the front, element by element: the state at i, its start, its step and its end. Assumes nothing.
+-- Rows that a loop changes place by place: the state at i, its start, its step and its end; and tabulated lists. Assumes nothing.
 use Prim.Native.Nat.{ℕ, suc, _+_, _-_, _<_, _≤_}
-use mathlib.Core.Path.{_≡_, refl, sym, _∙_, ap, subst}
-use mathlib.Core.Logic.{_⊎_}
-use mathlib.Core.List.{List, _++_}
 use native.Mathlib.Omega.{arith}
 use native.Mathlib.Decide.{decLt, ℕ-discrete}
-use lib.ListN.{length, getD, set, take, drop, length-append, length-drop, length-set, List·getD-append}
-use lib.Seq.{getD-set-same, getD-set-other, getD-drop, getD-append-add, ext-getD}
-use Rattle.lists.specs.Select.{tabulate}
-use Rattle.lists.proofs.Select.{length-tabulate, getD-tabulate}
+use mathlib.Core.Path.{_≡_, refl, sym, ap, _∙_}
+use mathlib.Core.Bool.{Bool, true, false, cond}
+use mathlib.Core.List.{List, [], _∷_, _++_, map}
+use lib.ListN.{length, getD, set, take, drop, length-set, length-take, length-drop, length-map, length-append, List·getD-append}
+use lib.Seq.{ext-getD, getD-set-same, getD-set-other, getD-take, getD-drop, getD-at, getD-append-add}
+use lib.Dec.{eqb}
+use Rattle.lists.specs.Select.{tabulate, indexOf, consIf}
+use Rattle.lists.proofs.Select.{length-tabulate, getD-tabulate, getD-map}
 
--- the first i elements are f's, and the others are as they were
-pub record Filled (f : ℕ → ℕ) (i : ℕ) (before now : List ℕ) : Type 0 where
-  pub kept : length now ≡ length before
-  pub done : (j : ℕ) → j < i → getD now j 0 ≡ f j
-  pub left : (j : ℕ) → i ≤ j → getD now j 0 ≡ getD before j 0
-
-pub filled-start : (f : ℕ → ℕ) (row : List ℕ) → Filled f 0 row row
-filled-start f row = record { kept = refl; done = λ j h. absurd (omega arith); left = λ j h. refl }
-
-pub filled-next : {f : ℕ → ℕ} {i : ℕ} {before now : List ℕ} (v : ℕ) → Filled f i before now → i < length now → v ≡ f i → Filled f (i + 1) before (set now i v)
-filled-next {f} {i} {before} {now} v F h e = record {
-  kept = length-set now i v ∙ F .kept;
-  done = λ j k. at j k (ℕ-discrete j i);
-  left = λ j k. getD-set-other now i j v 0 (λ q. omega arith) ∙ F .left j (omega arith);
-}
+pub indexOf-le : (x : ℕ) (l : List ℕ) → indexOf x l ≤ length l
+unfolding indexOf
+indexOf-le x [] = omega arith
+indexOf-le x (y ∷ ys) = go (eqb x y) (indexOf-le x ys)
   where
-    at : (j : ℕ) → j < i + 1 → Dec (j ≡ i) → getD (set now i v) j 0 ≡ f j
-    at j k (yes q) = ap (λ (x : ℕ). getD (set now i v) x 0) q ∙ getD-set-same now i v 0 h ∙ e ∙ ap f (sym q)
-    at j k (no q) = getD-set-other now i j v 0 q ∙ F .done j (omega (arith, q))
+    go : (b : Bool) → indexOf x ys ≤ length ys → cond b 0 (indexOf x ys + 1) ≤ suc (length ys)
+    go true h = omega arith
+    go false h = omega arith
 
-filled-whole : {f : ℕ → ℕ} {i : ℕ} {before now : List ℕ} → Filled f i before now → i ≤ length before → now ≡ tabulate i f ++ drop i before
-filled-whole {f} {i} {before} {now} F h = ext-getD 0 now (tabulate i f ++ drop i before) long (λ j k. at j (decLt j i))
+-- a list is tabulated by its elements
+pub tabulate-of : {A : Type 0} (n : ℕ) (f : ℕ → A) (d : A) (l : List A) → length l ≡ n → ((i : ℕ) → i < n → getD l i d ≡ f i) → l ≡ tabulate n f
+tabulate-of n f d l e h =
+    ext-getD d l (tabulate n f) (e ∙ sym (length-tabulate n f)) (λ i b. h i (omega arith) ∙ sym (getD-tabulate n f i d (omega arith)))
+
+-- a list that was l₀ and has f j at each place j below i
+pub record Filled {A : Type 0} (f : ℕ → A) (d : A) (i : ℕ) (l₀ l : List A) : Type 0 where
+  pub same : length l ≡ length l₀
+  pub done : (j : ℕ) → j < i → getD l j d ≡ f j
+  pub rest : (j : ℕ) → i ≤ j → getD l j d ≡ getD l₀ j d
+
+module _ {A : Type 0} (f : ℕ → A) (d : A) where
+  pub filled-none : (l : List A) → Filled f d 0 l l
+  filled-none l = record { same = refl; done = λ j h. absurd (omega arith); rest = λ j h. refl }
+
+  pub filled-more : {i : ℕ} {l₀ l : List A} (v : A) → i < length l₀ → v ≡ f i → Filled f d i l₀ l → Filled f d (i + 1) l₀ (set l i v)
+  filled-more {i} {l₀} {l} v h e s = record {
+    same = length-set l i v ∙ s .same;
+    done = λ j g. go j g (ℕ-discrete j i);
+    rest = λ j g. getD-set-other l i j v d (λ q. omega arith) ∙ s .rest j (omega arith);
+  }
+    where
+      go : (j : ℕ) → j < i + 1 → Dec (j ≡ i) → getD (set l i v) j d ≡ f j
+      go j g (yes q) = rw q (getD-set-same l i v d (omega (arith, s .same)) ∙ e)
+      go j g (no q) = getD-set-other l i j v d q ∙ s .done j (omega arith)
+
+  pub filled-all : {i : ℕ} {l₀ l : List A} (n : ℕ) → n ≤ i → length l₀ ≡ n → Filled f d i l₀ l → l ≡ tabulate n f
+  filled-all {i} {l₀} {l} n h e s = tabulate-of n f d l (s .same ∙ e) (λ j g. s .done j (omega arith))
+
+-- each of the first k elements was mapped
+pub filled-map : {A : Type 0} (g : A → A) (d : A) (i k : ℕ) (l₀ l : List A) → k ≤ i → k ≤ length l₀ → Filled (λ j. g (getD l₀ j d)) d i l₀ l → take k l ≡ map g (take k l₀)
+filled-map g d i k l₀ l h b s =
+    ext-getD d (take k l) (map g (take k l₀)) (omega (arith, length-take k l, length-take k l₀, length-map (take k l₀) g, s .same))
+    (λ j e.
+    let b₁ : j < k = omega (arith, length-take k l) in
+    let b₂ : j < length (take k l₀) = omega (arith, length-take k l₀) in
+    getD-take k l j d b₁ ∙ s .done j (omega arith) ∙ ap g (sym (getD-take k l₀ j d b₁)) ∙ sym (getD-map g (take k l₀) j d d b₂))
+
+-- the first n elements are tabulated, and what lies behind them is as it was
+pub filled-end : {A : Type 0} (f : ℕ → A) (d : A) {i : ℕ} {l₀ l : List A} (n : ℕ) → i ≡ n → n ≤ length l₀ → Filled f d i l₀ l → l ≡ tabulate n f ++ drop n l₀
+filled-end {A} f d {i} {l₀} {l} n e h s = ext-getD d l (tabulate n f ++ drop n l₀) long (λ j k. at j (decLt j n))
   where
-    long : length now ≡ length (tabulate i f ++ drop i before)
-    long = omega (arith, F .kept, length-append (tabulate i f) (drop i before), length-tabulate i f, length-drop i before)
+    long : length l ≡ length (tabulate n f ++ drop n l₀)
+    long = omega (arith, s .same, length-append (tabulate n f) (drop n l₀), length-tabulate n f, length-drop n l₀)
 
-    at : (j : ℕ) → Dec (j < i) → getD now j 0 ≡ getD (tabulate i f ++ drop i before) j 0
+    at : (j : ℕ) → Dec (j < n) → getD l j d ≡ getD (tabulate n f ++ drop n l₀) j d
     at j (yes q) =
-        F .done j q
-        ∙ sym (getD-tabulate i f j 0 q)
-        ∙ sym (List·getD-append (tabulate i f) (drop i before) 0 j (omega (arith, length-tabulate i f)))
+        s .done j (omega arith)
+        ∙ sym (getD-tabulate n f j d q)
+        ∙ sym (List·getD-append (tabulate n f) (drop n l₀) d j (omega (arith, length-tabulate n f)))
     at j (no q) =
-        F .left j (omega arith)
-        ∙ ap (λ (x : ℕ). getD before x 0) split
-        ∙ sym (getD-drop i before (j - i) 0)
-        ∙ sym (getD-append-add (tabulate i f) (drop i before) (j - i) 0)
-        ∙ ap (λ (x : ℕ). getD (tabulate i f ++ drop i before) x 0) (omega (arith, length-tabulate i f))
+        s .rest j (omega arith)
+        ∙ ap (λ (x : ℕ). getD l₀ x d) split
+        ∙ sym (getD-drop n l₀ (j - n) d)
+        ∙ sym (getD-append-add (tabulate n f) (drop n l₀) (j - n) d)
+        ∙ ap (λ (x : ℕ). getD (tabulate n f ++ drop n l₀) x d) (omega (arith, length-tabulate n f))
       where
-        split : j ≡ i + (j - i)
+        split : j ≡ n + (j - n)
         split = omega arith
 
-pub filled-end : {f : ℕ → ℕ} {i n : ℕ} {before now : List ℕ} → Filled f i before now → i ≡ n → n ≤ length before → now ≡ tabulate n f ++ drop n before
-filled-end {f} {i} {n} {before} {now} G q =
-    let F : Filled f n before now = subst (λ (k : ℕ). Filled f k before now) q G in
-    filled-whole F
+-- Tabulation: the same elements, and one more
+
+pub tabulate-same : {A : Type 0} (n : ℕ) (f g : ℕ → A) → ((j : ℕ) → j < n → f j ≡ g j) → tabulate n f ≡ tabulate n g
+tabulate-same n f g h = tabulate-of n g (g 0) (tabulate n f) (length-tabulate n f) (λ j b. getD-tabulate n f j (g 0) b ∙ h j b)
+
+pub tabulate-more : {A : Type 0} (n : ℕ) (f g : ℕ → A) → ((j : ℕ) → j < n → g j ≡ f j) → tabulate n g ++ f n ∷ [] ≡ tabulate (n + 1) f
+tabulate-more {A} n f g h =
+    tabulate-of (n + 1) f (f n) (tabulate n g ++ f n ∷ []) (omega (arith, length-append (tabulate n g) (f n ∷ []), length-tabulate n g)) (λ j b. go j b (ℕ-discrete j n))
+  where
+    go : (j : ℕ) → j < n + 1 → Dec (j ≡ n) → getD (tabulate n g ++ f n ∷ []) j (f n) ≡ f j
+    go j b (yes e) = rw e (getD-at (tabulate n g) (f n) [] (f n) n (length-tabulate n g))
+    go j b (no e) =
+        List·getD-append (tabulate n g) (f n ∷ []) (f n) j (omega (arith, length-tabulate n g)) ∙ getD-tabulate n g j (f n) (omega arith) ∙ h j (omega arith)
+
+pub consIf-append : {A : Type 0} (b : Bool) (x : A) (l : List A) → consIf b x l ≡ consIf b x [] ++ l
+consIf-append true x l = refl
+consIf-append false x l = refl
