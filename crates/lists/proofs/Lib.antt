@@ -15,3 +15,5 @@ pub mod Places
 pub mod Maps
 pub mod Fill
 pub mod Stores
+pub mod Filters
+pub mod Kept

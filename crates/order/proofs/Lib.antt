@@ -12,3 +12,12 @@ pub mod Rule
 pub mod Ranks
 pub mod Passed
 pub mod Triangle
+pub mod Rows
+pub mod Flags
+pub mod Walks
+pub mod Walking
+pub mod Connected
+pub mod Separation
+pub mod Choices
+pub mod Rankings
+pub mod Drawables

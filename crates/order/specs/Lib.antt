@@ -4,3 +4,5 @@ pub mod Verdict
 pub mod Order
 pub mod StOrder
 pub mod Ends
+pub mod Tables
+pub mod Ranking

@@ -1,0 +1,27 @@
+-- What a ranking of parts says: the parts by rank and the ranks by part. Assumes nothing.
+use Prim.Native.Nat.{ℕ, _<_}
+use mathlib.Core.Path.{_≡_}
+use mathlib.Core.List.{List, map}
+use lib.ListN.{length, getD, take}
+use Rattle.words.specs.declared.Part.{Part}
+use Rattle.words.specs.declared.Rank.{Rank}
+use Rattle.station.specs.Station.{Station}
+use Rattle.order.specs.declared.Ranking.{Ranking}
+use Rattle.order.specs.Order.{order, rankIn}
+
+-- the part numbers by rank, and the rank numbers by part
+unfoldable pub partNumbers : List Part → List ℕ
+partNumbers parts = map (λ (p : Part). p .0) parts
+
+unfoldable pub rankNumbers : List Rank → List ℕ
+rankNumbers ranks = map (λ (k : Rank). k .0) ranks
+
+-- the first places of part by rank are the given parts, and each of those has its rank
+pub record BothWays (parts : List ℕ) (r : Ranking) : Type 0 where
+  pub part : take (length parts) (partNumbers (r .part)) ≡ parts
+  pub rank : (p : ℕ) → rankIn parts p < length parts → getD (rankNumbers (r .rank)) p 0 ≡ rankIn parts p
+
+-- 'rank by part, part by rank': of the order of a station
+pub record RankingOf (st : Station) (r : Ranking) : Type 0 where
+  pub part : take (st .parts) (partNumbers (r .part)) ≡ order st
+  pub rank : (p : ℕ) → p < st .parts → getD (rankNumbers (r .rank)) p 0 ≡ rankIn (order st) p
