@@ -15,5 +15,7 @@ pub mod Places
 pub mod Maps
 pub mod Fill
 pub mod Stores
+pub mod Storing
+pub mod Pairs
 pub mod Filters
 pub mod Kept

@@ -2,3 +2,4 @@
 pub mod Search
 pub mod Select
 pub mod Stores
+pub mod Pairs
