@@ -22,6 +22,5 @@ pub mod Insertion
 pub mod Collecting
 pub mod Bounds
 pub mod Next
-pub mod Turning
 pub mod Lanes
 pub mod Worked

@@ -1,17 +1,13 @@
--- How the code's courses, points and corners read in the definitions. Assumes nothing.
-use Prim.Native.Nat.{ℕ, _+_, _-_, _≤_}
+-- How the code's courses read in the definitions. Assumes nothing.
+use Prim.Native.Nat.{ℕ, _-_}
 use mathlib.Core.Path.{_≡_}
-use mathlib.Core.Bool.{not}
-use mathlib.Core.List.{List, [], _∷_, _++_}
-use lib.ListN.{length, getD}
-use Rattle.lists.specs.Select.{tabulate, consIf}
+use mathlib.Core.List.{List}
+use lib.ListN.{length}
 use Rattle.layout.specs.declared.points.Spot as code-spot
 use Rattle.layout.specs.declared.points.Course as code-course
 use Rattle.layout.specs.declared.points.Ends.{Ends}
-use Rattle.layout.specs.declared.points.Spots.{Spots}
-use Rattle.layout.specs.declared.points.Corners.{Corners}
 use Rattle.layout.specs.Columns.{outgoing, incoming}
-use Rattle.layout.specs.Points.{Spot, Course, sameSpot, bottomRows, topRows}
+use Rattle.layout.specs.Points.{Spot, Course, bottomRows, topRows}
 use Rattle.layout.specs.Readings.{at, Holds}
 
 abbrev pub spotAt : ℕ → ℕ → Spot
@@ -23,23 +19,9 @@ spotIn p = spotAt (p .x) (p .y)
 abbrev pub courseIn : code-course.Course → Course
 courseIn c = record { from = spotIn (c .from); low = c .low; column = c .column; high = c .high; to = spotIn (c .to) }
 
-unfoldable pub spotsIn : Spots → List Spot
-spotsIn l = tabulate (l .count) (λ j. spotAt (getD (l .x) j 0) (getD (l .y) j 0))
-
-unfoldable pub cornersIn : Corners → List Spot
-cornersIn l = tabulate (l .count) (λ j. spotAt (getD (l .x) j 0) (getD (l .y) j 0))
-
 -- what the courses of the station's cables share, by their columns
 pub record EndsOf (n : ℕ) (lowers uppers xs : List ℕ) (e : Ends) : Type 0 where
   pub below : e .below ≡ bottomRows n (length lowers) (at lowers) (at uppers)
   pub above : e .above ≡ topRows n (length lowers) (at lowers) (at uppers)
   pub bottoms : Holds (at uppers) (e .bottoms) (outgoing (length lowers) (at lowers) (at uppers) 0)
   pub tops : Holds (at xs) (e .tops) (incoming (length lowers) (at lowers) (at uppers) xs (n - 1))
-
-pub record Pushed (l : Spots) (p : code-spot.Spot) (r : Spots) : Type 0 where
-  pub count : r .count ≡ l .count + 1
-  pub spots : spotsIn r ≡ spotsIn l ++ spotIn p ∷ []
-
-pub record PushedUnless (l : Spots) (p q : code-spot.Spot) (r : Spots) : Type 0 where
-  pub count : r .count ≤ l .count + 1
-  pub spots : spotsIn r ≡ spotsIn l ++ consIf (not (sameSpot (spotIn p) (spotIn q))) (spotIn p) []

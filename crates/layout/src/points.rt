@@ -1,5 +1,4 @@
-// The course of each cable, its points and its corners.
-
+// The course of each cable: where it may turn, from which its points and corners follow.
 use crate::columns::one_if;
 use crate::incident::Incident;
 use crate::incident::incoming;
@@ -13,10 +12,10 @@ ghost use Prim.Native.Nat.{ℕ, _+_, _-_, _≤_, _<_};
 ghost use lib.ListN.{length, getD};
 ghost use lib.Dec.{eqb};
 ghost use Rattle.lists.specs.Select.{indexOf};
-ghost use Rattle.layout.specs.Points.{sameSpot, pointsOf, cornersOf, isBottom, isTop, courseOf};
+ghost use Rattle.layout.specs.Points.{isBottom, isTop, courseOf};
 ghost use Rattle.layout.specs.Readings.{at, lineOf, held};
 ghost use Rattle.layout.specs.Standing.{Given, Laid};
-ghost use Rattle.layout.specs.Courses.{spotIn, courseIn, spotsIn, cornersIn, spotAt, EndsOf, Pushed, PushedUnless};
+ghost use Rattle.layout.specs.Courses.{spotIn, courseIn, spotAt, EndsOf};
 
 pub struct Spot {
     pub x: u16,
@@ -38,20 +37,6 @@ pub struct Ends {
     pub above: u16,
     pub bottoms: Incident,
     pub tops: Incident,
-}
-
-// The first `count` of six spots.
-pub struct Spots {
-    pub count: usize,
-    pub x: [u16; 6],
-    pub y: [u16; 6],
-}
-
-// The first `count` of four spots.
-pub struct Corners {
-    pub count: usize,
-    pub x: [u16; 4],
-    pub y: [u16; 4],
 }
 
 // The cables of the first and of the last rank, and d and e.
@@ -145,89 +130,5 @@ pub fn course_of(
         column: cables[i],
         high,
         to: part_spot(parts, d, b),
-    }
-}
-
-fn same_spot(p: Spot, q: Spot) -> bool
-    ensures { λ r. ⌜ r ≡ sameSpot (spotIn p) (spotIn q) ⌝ }
-{
-    p.x == q.x && p.y == q.y
-}
-
-fn no_spots() -> Spots
-    ensures { λ r. ⌜ r .count ≡ 0 ⌝ }
-{
-    let no = [0u16; 6];
-    Spots {
-        count: 0,
-        x: no,
-        y: no,
-    }
-}
-
-// The spots l, and p behind them.
-fn push(l: Spots, p: Spot) -> Spots
-    requires { ⌜ l .count < 6 ⌝ }
-    ensures { λ r. ⌜ Pushed l p r ⌝ }
-{
-    let n = l.count;
-    let mut x = l.x;
-    let mut y = l.y;
-    x[n] = p.x;
-    y[n] = p.y;
-    Spots { count: n + 1, x, y }
-}
-
-// The spots l, and p unless the one behind it is the same.
-fn push_unless(l: Spots, p: Spot, q: Spot) -> Spots
-    requires { ⌜ l .count < 6 ⌝ }
-    ensures { λ r. ⌜ PushedUnless l p q r ⌝ }
-{
-    if same_spot(p, q) { l } else { push(l, p) }
-}
-
-// The points of a course.
-pub fn points_of(c: Course) -> Spots
-    ensures { λ r. ⌜ (r .count ≤ 6) × (spotsIn r ≡ pointsOf (courseIn c)) ⌝ }
-{
-    let from = c.from;
-    let to = c.to;
-    let p = Spot {
-        x: from.x,
-        y: c.low,
-    };
-    let q = Spot {
-        x: c.column,
-        y: c.low,
-    };
-    let r = Spot {
-        x: c.column,
-        y: c.high,
-    };
-    let s = Spot { x: to.x, y: c.high };
-    let one = push_unless(no_spots(), from, p);
-    let two = push_unless(one, p, q);
-    let three = push_unless(two, q, r);
-    let four = push_unless(three, r, s);
-    push(push_unless(four, s, to), to)
-}
-
-fn less_two(n: usize) -> usize
-    ensures { λ r. ⌜ r ≡ n - 2 ⌝ }
-{
-    if n < 2 { 0 } else { n - 2 }
-}
-
-// The corners of a course: its points but for the first and the last.
-pub fn corners_of(c: Course) -> Corners
-    ensures { λ r. ⌜ (r .count ≤ 4) × (cornersIn r ≡ cornersOf (courseIn c)) ⌝ }
-{
-    let l = points_of(c);
-    let x = l.x;
-    let y = l.y;
-    Corners {
-        count: less_two(l.count),
-        x: [x[1], x[2], x[3], x[4]],
-        y: [y[1], y[2], y[3], y[4]],
     }
 }

@@ -1,4 +1,4 @@
--- Rows that a loop changes place by place: the state at i, its start, its step and its end; and tabulated lists. Assumes nothing.
+-- Rows that a loop changes place by place: the state at i, its start, its step and its end. Assumes nothing.
 use Prim.Native.Nat.{ℕ, suc, _+_, _-_, _<_, _≤_}
 use native.Mathlib.Omega.{arith}
 use native.Mathlib.Decide.{decLt, ℕ-discrete}
@@ -6,9 +6,9 @@ use mathlib.Core.Path.{_≡_, refl, sym, ap, _∙_}
 use mathlib.Core.Bool.{Bool, true, false, cond}
 use mathlib.Core.List.{List, [], _∷_, _++_, map}
 use lib.ListN.{length, getD, set, take, drop, length-set, length-take, length-drop, length-map, length-append, List·getD-append}
-use lib.Seq.{ext-getD, getD-set-same, getD-set-other, getD-take, getD-drop, getD-at, getD-append-add}
+use lib.Seq.{ext-getD, getD-set-same, getD-set-other, getD-take, getD-drop, getD-append-add}
 use lib.Dec.{eqb}
-use Rattle.lists.specs.Select.{tabulate, indexOf, consIf}
+use Rattle.lists.specs.Select.{tabulate, indexOf}
 use Rattle.lists.proofs.Select.{length-tabulate, getD-tabulate, getD-map}
 
 pub indexOf-le : (x : ℕ) (l : List ℕ) → indexOf x l ≤ length l
@@ -79,21 +79,3 @@ filled-end {A} f d {i} {l₀} {l} n e h s = ext-getD d l (tabulate n f ++ drop n
       where
         split : j ≡ n + (j - n)
         split = omega arith
-
--- Tabulation: the same elements, and one more
-
-pub tabulate-same : {A : Type 0} (n : ℕ) (f g : ℕ → A) → ((j : ℕ) → j < n → f j ≡ g j) → tabulate n f ≡ tabulate n g
-tabulate-same n f g h = tabulate-of n g (g 0) (tabulate n f) (length-tabulate n f) (λ j b. getD-tabulate n f j (g 0) b ∙ h j b)
-
-pub tabulate-more : {A : Type 0} (n : ℕ) (f g : ℕ → A) → ((j : ℕ) → j < n → g j ≡ f j) → tabulate n g ++ f n ∷ [] ≡ tabulate (n + 1) f
-tabulate-more {A} n f g h =
-    tabulate-of (n + 1) f (f n) (tabulate n g ++ f n ∷ []) (omega (arith, length-append (tabulate n g) (f n ∷ []), length-tabulate n g)) (λ j b. go j b (ℕ-discrete j n))
-  where
-    go : (j : ℕ) → j < n + 1 → Dec (j ≡ n) → getD (tabulate n g ++ f n ∷ []) j (f n) ≡ f j
-    go j b (yes e) = rw e (getD-at (tabulate n g) (f n) [] (f n) n (length-tabulate n g))
-    go j b (no e) =
-        List·getD-append (tabulate n g) (f n ∷ []) (f n) j (omega (arith, length-tabulate n g)) ∙ getD-tabulate n g j (f n) (omega arith) ∙ h j (omega arith)
-
-pub consIf-append : {A : Type 0} (b : Bool) (x : A) (l : List A) → consIf b x l ≡ consIf b x [] ++ l
-consIf-append true x l = refl
-consIf-append false x l = refl

@@ -57,7 +57,7 @@ module _ (t : ℕ → ℕ → Bool) where
       → got + one + pairs t (i + 1) (m - (i + 1)) ≡ all
   pairs-more i m got one all h e g =
       let n : pairs t i (m - i) ≡ count (t i) (upFrom (i + 1) (m - (i + 1))) + pairs t (i + 1) (m - (i + 1)) =
-            ap (λ (k : ℕ). pairs t i k) (omega arith) ∙ step-pairs i (m - (i + 1)) in
+      ap (λ (k : ℕ). pairs t i k) (omega arith) ∙ step-pairs i (m - (i + 1)) in
       omega (arith, n, e, g)
 
 pub pairs-ext :

@@ -74,8 +74,14 @@ module _ (c : Course) where
       [])))
   unfolding cornersOf pointsOf turns dropRepeats
   corners-are h =
-      rw (same-column (c .from .x) (c .from .y) (c .low), same-row (c .from .x) (c .column) (c .low), same-column (c .column) (c .low) (c .high),
-      ne-eqb (c .low) (c .high) (λ e. omega arith), same-row (c .column) (c .to .x) (c .high), same-column (c .to .x) (c .high) (c .to .y))
+      rw (
+        same-column (c .from .x) (c .from .y) (c .low),
+        same-row (c .from .x) (c .column) (c .low),
+        same-column (c .column) (c .low) (c .high),
+        ne-eqb (c .low) (c .high) (λ e. omega arith),
+        same-row (c .column) (c .to .x) (c .high),
+        same-column (c .to .x) (c .high) (c .to .y),
+      )
       (inner-kept dips shifts returns drops _ _ _ _ _ _)
 
   corner-words :

@@ -1,7 +1,6 @@
 // 'the crossings: the pairs of cables with no part in common whose lines cross'.
 use crate::table::course_at;
 use layout::points::Course;
-
 ghost use mathlib.Core.Path.{_≡_};
 ghost use Prim.Native.Nat.{_+_, _-_, _*_, _≤_, _<_, min, max};
 ghost use lib.ListN.{length};

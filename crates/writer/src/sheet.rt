@@ -2,7 +2,6 @@
 use crate::table::course_at;
 use layout::points::Course;
 use words::Word;
-
 ghost use mathlib.Core.Path.{_≡_};
 ghost use mathlib.Core.Bool.{_&&_, _||_};
 ghost use mathlib.Core.List.{[], _∷_, map};
@@ -114,7 +113,16 @@ fn put_parts(sheet: &mut [u32], at: usize, ranks: &[u8], columns: &[u16], bottom
 }
 
 // All words of a sheet, from the front.
-pub fn put_sheet(sheet: &mut [u32], width: u16, height: u16, ranks: &[u8], columns: &[u16], bottom: u16, courses: &[u16], m: usize) -> usize
+pub fn put_sheet(
+    sheet: &mut [u32],
+    width: u16,
+    height: u16,
+    ranks: &[u8],
+    columns: &[u16],
+    bottom: u16,
+    courses: &[u16],
+    m: usize,
+) -> usize
     requires { ⌜ (width < 4096) × (height < 4096) ⌝ }
     requires { ⌜ PartsFit (now ranks) (now columns) bottom ⌝ }
     requires { ⌜ TableFits (now courses) m ⌝ }

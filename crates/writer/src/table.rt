@@ -1,6 +1,6 @@
 // The table of all courses: seven numbers to a line.
-use layout::points::{Course, Spot};
-
+use layout::points::Course;
+use layout::points::Spot;
 ghost use mathlib.Core.Path.{_≡_};
 ghost use Prim.Native.Nat.{ℕ, _+_, _*_, _≤_, _<_};
 ghost use lib.ListN.{length};
@@ -14,11 +14,17 @@ pub fn course_at(courses: &[u16], line: usize) -> Course
 {
     let at = 7 * line;
     Course {
-        from: Spot { x: courses[at], y: courses[at + 1] },
+        from: Spot {
+            x: courses[at],
+            y: courses[at + 1],
+        },
         low: courses[at + 2],
         column: courses[at + 3],
         high: courses[at + 4],
-        to: Spot { x: courses[at + 5], y: courses[at + 6] },
+        to: Spot {
+            x: courses[at + 5],
+            y: courses[at + 6],
+        },
     }
 }
 

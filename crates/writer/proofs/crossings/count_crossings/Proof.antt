@@ -42,9 +42,11 @@ loop-less c = omega arith
 loop-again : tie.Need-loop-again Inv-loop μ-loop
 loop-again c =
     let l = c .before .before .loop in
-    let args = c .before .before .before .before .args in
-    (omega arith, omega arith,
-    pairs-more (test (args .courses .now)) (l .i) (args .m) (l .got) (c .crossings-of .result) _ (c .before .loop-test .taken) (c .crossings-of .ensures .1) (l .inv .2))
+    let args = c .before .before .before .before .args in (
+      omega arith,
+      omega arith,
+      pairs-more (test (args .courses .now)) (l .i) (args .m) (l .got) (c .crossings-of .result) _ (c .before .loop-test .taken) (c .crossings-of .ensures .1) (l .inv .2),
+    )
 
 returns : tie.Need-returns Inv-loop μ-loop
 unfolding crossingsIn

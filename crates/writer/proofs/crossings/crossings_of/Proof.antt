@@ -51,12 +51,14 @@ loop-less c = omega arith
 loop-again : tie.Need-loop-again Inv-loop μ-loop
 loop-again c =
     let l = c .before .before .before .before .loop in
-    let args = c .before .before .before .before .before .before .before .args in
-    (omega arith, omega (arith, oneIf-le (c .before .cross .result)),
-    count-more (λ k. coursesCross (tableCourse (args .courses .now) (args .i)) (tableCourse (args .courses .now) k)) (l .j) (args .m) (l .got) (c .one-if .result) _ (c .before .cross .result)
-    (c .before .before .before .loop-test .taken) (c .one-if .ensures)
-    (c .before .cross .ensures ∙ ap₂ coursesCross (c .before .before .before .before .before .course-at .ensures) (c .before .before .course-at2 .ensures))
-    (l .inv .2))
+    let args = c .before .before .before .before .before .before .before .args in (
+      omega arith,
+      omega (arith, oneIf-le (c .before .cross .result)),
+      count-more (λ k. coursesCross (tableCourse (args .courses .now) (args .i)) (tableCourse (args .courses .now) k)) (l .j) (args .m) (l .got) (c .one-if .result) _ (c .before .cross .result)
+          (c .before .before .before .loop-test .taken) (c .one-if .ensures)
+          (c .before .cross .ensures ∙ ap₂ coursesCross (c .before .before .before .before .before .course-at .ensures) (c .before .before .course-at2 .ensures))
+          (l .inv .2),
+    )
 
 returns : tie.Need-returns Inv-loop μ-loop
 returns c =

@@ -28,9 +28,10 @@ add-part c =
 
 part-requires : tie.Need-part-requires
 part-requires c κs =
-    let s = c .before .before .before .before in
-    (s .pre .0 .column (getD (s .args .ranks .now) (s .args .p) 0) (s .pre .0 .below (s .args .p) (s .pre .1)),
-    omega (arith, c .before .shared-slice-known3 .given (s .args .p), s .pre .0 .row))
+    let s = c .before .before .before .before in (
+      s .pre .0 .column (getD (s .args .ranks .now) (s .args .p) 0) (s .pre .0 .below (s .args .p) (s .pre .1)),
+      omega (arith, c .before .shared-slice-known3 .given (s .args .p), s .pre .0 .row),
+    )
 
 returns : tie.Need-returns
 returns c = search needs

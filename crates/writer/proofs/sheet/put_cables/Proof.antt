@@ -35,11 +35,16 @@ put-cable-requires c κs =
     let s = c .before .before .before .before .before .before in
     let h = c .before .before .loop-test .taken in
     let e = c .course-at .ensures in
-    let all = storing-room (subst (λ (n : ℕ). s .args .at + n ≤ length (s .args .sheet .now)) (ap length (sym (table-all (s .args .courses .now) (s .args .m)))) (s .pre .1)) (l .inv .1) in
-    (subst (λ (d : Course). CourseFits d) (sym e) (s .pre .0 .fits (l .line) h),
-    omega (arith, all, ap length (table-next (s .args .courses .now) (l .line) (s .args .m) h),
-    length-append (courseWords (l .line) (tableCourse (s .args .courses .now) (l .line))) (tableWords (s .args .courses .now) (l .line + 1) (s .args .m - (l .line + 1))),
-    ap (λ (d : Course). length (courseWords (l .line) d)) e))
+    let all = storing-room (subst (λ (n : ℕ). s .args .at + n ≤ length (s .args .sheet .now)) (ap length (sym (table-all (s .args .courses .now) (s .args .m)))) (s .pre .1)) (l .inv .1) in (
+      subst (λ (d : Course). CourseFits d) (sym e) (s .pre .0 .fits (l .line) h),
+      omega (
+        arith,
+        all,
+        ap length (table-next (s .args .courses .now) (l .line) (s .args .m) h),
+        length-append (courseWords (l .line) (tableCourse (s .args .courses .now) (l .line))) (tableWords (s .args .courses .now) (l .line + 1) (s .args .m - (l .line + 1))),
+        ap (λ (d : Course). length (courseWords (l .line) d)) e,
+      ),
+    )
 
 add-line : tie.Need-add-line Inv-loop μ-loop
 add-line c = omega (arith, c .before .before .before .before .before .before .before .before .before .pre .0 .lines)
@@ -52,10 +57,11 @@ loop-again c =
     let k = c .before .before in
     let l = k .before .before .before .before .loop in
     let s = k .before .before .before .before .before .before .before in
-    let h = k .before .before .before .loop-test .taken in
-    (omega arith,
-    storing-next _ (table-next (s .args .courses .now) (l .line) (s .args .m) h)
-    (stored-as (ap (λ (d : Course). courseWords (l .line) d) (k .before .course-at .ensures)) (k .put-cable .ensures)) (l .inv .1))
+    let h = k .before .before .before .loop-test .taken in (
+      omega arith,
+      storing-next _ (table-next (s .args .courses .now) (l .line) (s .args .m) h)
+          (stored-as (ap (λ (d : Course). courseWords (l .line) d) (k .before .course-at .ensures)) (k .put-cable .ensures)) (l .inv .1),
+    )
 
 same-length : tie.Need-same-length Inv-loop μ-loop
 same-length c = storing-kept (c .before .loop .inv .1)

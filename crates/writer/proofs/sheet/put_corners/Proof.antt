@@ -25,18 +25,30 @@ put-corner-requires-2 : tie.Need-put-corner-requires-2
 put-corner-requires-2 c κs =
     let k₁ = c .before .before .before .before in
     let s = k₁ .before .before .before .before .before .before in
-    let few = corner-count (courseIn (s .args .c)) (s .pre .0 .rises) in
-    (omega (arith, few, ap oneIf (k₁ .before .both .ensures), ap oneIf (c .either .ensures), stored-if (k₁ .before .both .result) (cornerWord (s .args .c .from .x) (s .args .c .low)) (k₁ .put-corner .ensures), k₁ .put-corner .kept .0, s .pre .1),
-    (s .pre .0 .column, s .pre .0 .low))
+    let few = corner-count (courseIn (s .args .c)) (s .pre .0 .rises) in (
+      omega (arith, few, ap oneIf (k₁ .before .both .ensures), ap oneIf (c .either .ensures), stored-if (k₁ .before .both .result) (cornerWord (s .args .c .from .x) (s .args .c .low)) (k₁ .put-corner .ensures), k₁ .put-corner .kept .0, s .pre .1),
+      (s .pre .0 .column, s .pre .0 .low),
+    )
 
 put-corner-requires-3 : tie.Need-put-corner-requires-3
 put-corner-requires-3 c κs =
     let k₂ = c .before .before .before .before in
     let k₁ = k₂ .before .before .before .before .before in
     let s = k₁ .before .before .before .before .before .before in
-    let few = corner-count (courseIn (s .args .c)) (s .pre .0 .rises) in
-    (omega (arith, few, ap oneIf (k₁ .before .both .ensures), ap oneIf (k₂ .before .either .ensures), stored-if (k₁ .before .both .result) (cornerWord (s .args .c .from .x) (s .args .c .low)) (k₁ .put-corner .ensures), stored-if (k₂ .before .either .result) (cornerWord (s .args .c .column) (s .args .c .low)) (k₂ .put-corner2 .ensures),
-    k₁ .put-corner .kept .0, k₂ .put-corner2 .kept .0, s .pre .1), (s .pre .0 .column, s .pre .0 .high))
+    let few = corner-count (courseIn (s .args .c)) (s .pre .0 .rises) in (
+      omega (
+        arith,
+        few,
+        ap oneIf (k₁ .before .both .ensures),
+        ap oneIf (k₂ .before .either .ensures),
+        stored-if (k₁ .before .both .result) (cornerWord (s .args .c .from .x) (s .args .c .low)) (k₁ .put-corner .ensures),
+        stored-if (k₂ .before .either .result) (cornerWord (s .args .c .column) (s .args .c .low)) (k₂ .put-corner2 .ensures),
+        k₁ .put-corner .kept .0,
+        k₂ .put-corner2 .kept .0,
+        s .pre .1,
+      ),
+      (s .pre .0 .column, s .pre .0 .high),
+    )
 
 put-corner-requires-4 : tie.Need-put-corner-requires-4
 put-corner-requires-4 c κs =
@@ -44,9 +56,22 @@ put-corner-requires-4 c κs =
     let k₂ = k₃ .before .before .before .before .before in
     let k₁ = k₂ .before .before .before .before .before in
     let s = k₁ .before .before .before .before .before .before in
-    let few = corner-count (courseIn (s .args .c)) (s .pre .0 .rises) in
-    (omega (arith, few, ap oneIf (k₁ .before .both .ensures), ap oneIf (k₂ .before .either .ensures), stored-if (k₁ .before .both .result) (cornerWord (s .args .c .from .x) (s .args .c .low)) (k₁ .put-corner .ensures), stored-if (k₂ .before .either .result) (cornerWord (s .args .c .column) (s .args .c .low)) (k₂ .put-corner2 .ensures),
-    stored-if (returns-to (courseIn (s .args .c))) (cornerWord (s .args .c .column) (s .args .c .high)) (k₃ .put-corner3 .ensures), k₁ .put-corner .kept .0, k₂ .put-corner2 .kept .0, k₃ .put-corner3 .kept .0, s .pre .1), (s .pre .0 .to, s .pre .0 .high))
+    let few = corner-count (courseIn (s .args .c)) (s .pre .0 .rises) in (
+      omega (
+        arith,
+        few,
+        ap oneIf (k₁ .before .both .ensures),
+        ap oneIf (k₂ .before .either .ensures),
+        stored-if (k₁ .before .both .result) (cornerWord (s .args .c .from .x) (s .args .c .low)) (k₁ .put-corner .ensures),
+        stored-if (k₂ .before .either .result) (cornerWord (s .args .c .column) (s .args .c .low)) (k₂ .put-corner2 .ensures),
+        stored-if (returns-to (courseIn (s .args .c))) (cornerWord (s .args .c .column) (s .args .c .high)) (k₃ .put-corner3 .ensures),
+        k₁ .put-corner .kept .0,
+        k₂ .put-corner2 .kept .0,
+        k₃ .put-corner3 .kept .0,
+        s .pre .1,
+      ),
+      (s .pre .0 .to, s .pre .0 .high),
+    )
 
 same-length : tie.Need-same-length
 same-length c = search needs

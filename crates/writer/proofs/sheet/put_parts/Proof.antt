@@ -43,10 +43,11 @@ loop-again : tie.Need-loop-again Inv-loop μ-loop
 loop-again c =
     let k = c .before .before in
     let l = k .before .before .before .before .loop in
-    let s = k .before .before .before .before .before .before .before .before in
-    (omega arith,
-    storing-next _ (parts-next (s .args .ranks .now) (s .args .columns .now) (s .args .bottom) (l .p) (length (s .args .ranks .now)) (k .before .before .before .loop-test .taken))
-    (stored-as (ap (λ (z : ℕ). z ∷ []) (k .before .part-word .ensures)) (k .put .ensures)) (l .inv .1))
+    let s = k .before .before .before .before .before .before .before .before in (
+      omega arith,
+      storing-next _ (parts-next (s .args .ranks .now) (s .args .columns .now) (s .args .bottom) (l .p) (length (s .args .ranks .now)) (k .before .before .before .loop-test .taken))
+          (stored-as (ap (λ (z : ℕ). z ∷ []) (k .before .part-word .ensures)) (k .put .ensures)) (l .inv .1),
+    )
 
 same-length : tie.Need-same-length Inv-loop μ-loop
 same-length c = storing-kept (c .before .loop .inv .1)

@@ -28,10 +28,19 @@ put-cables-requires c κs =
     let j = c .before .before .before in
     let k = j .before .before .before .before in
     let s = k .before .before .before .before .before .before .before in
-    let size = length-words (s .args .ranks .now) (s .args .columns .now) (s .args .bottom) (s .args .width) (s .args .height) (s .args .courses .now) (s .args .m) in
-    (s .pre .1 .1 .0,
-    omega (arith, size, s .pre .1 .1 .1, k .put .ensures .place, k .put .kept .0, j .put-parts .ensures .place, j .put-parts .kept .0,
-    length-parts (s .args .ranks .now) (s .args .columns .now) (s .args .bottom) 0 (length (s .args .ranks .now))))
+    let size = length-words (s .args .ranks .now) (s .args .columns .now) (s .args .bottom) (s .args .width) (s .args .height) (s .args .courses .now) (s .args .m) in (
+      s .pre .1 .1 .0,
+      omega (
+        arith,
+        size,
+        s .pre .1 .1 .1,
+        k .put .ensures .place,
+        k .put .kept .0,
+        j .put-parts .ensures .place,
+        j .put-parts .kept .0,
+        length-parts (s .args .ranks .now) (s .args .columns .now) (s .args .bottom) 0 (length (s .args .ranks .now)),
+      ),
+    )
 
 same-length : tie.Need-same-length
 same-length c =
