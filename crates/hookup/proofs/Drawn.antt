@@ -16,9 +16,10 @@ use Rattle.order.specs.Ends.{noCable, lowerRank, upperRank, lowerPart, upperPar
 use Rattle.order.proofs.Weak.{Orderable}
 use Rattle.order.proofs.Ranks.{rank-below, rank-one}
 use Rattle.layout.specs.Ranked.{Ranked}
-use Rattle.layout.specs.Points.{Spot, Course, origin, pointsOf, inner, cornersOf, spotOf, courseOf}
+use Rattle.layout.specs.Points.{Spot, origin, pointsOf, inner, cornersOf, spotOf, courseOf}
 use Rattle.layout.specs.Lines.{point}
 use Rattle.hookup.specs.Drawing.{Route, spotAt, routePoints, drawingIn, drawingBy, drawing}
+use Rattle.hookup.specs.Plot.{lowerOf, upperOf, lineCourse}
 use Rattle.hookup.specs.Demand.{noRoute, routeAt, pointsAt, Meets}
 use Rattle.hookup.proofs.Laid.{Laid, laid}
 use Rattle.hookup.proofs.Renaming.{renamed}
@@ -60,19 +61,9 @@ module _ (l : List ℕ) (c : Cable) where
 
 -- The drawing
 
--- the rank of the lower and of the upper part of each cable, by line
-abbrev pub lowerOf : Station → ℕ → ℕ
-lowerOf st = lowerRank (order st) (st .cables)
-
-abbrev pub upperOf : Station → ℕ → ℕ
-upperOf st = upperRank (order st) (st .cables)
-
--- as the layout gives them: the spot of each rank, and the course and the points of each cable by line
+-- as the layout gives them: the spot of each rank, and the points of each cable by line
 abbrev pub rankSpot : Station → ℕ → Spot
 rankSpot st = spotOf (st .parts) (length (st .cables)) (lowerOf st) (upperOf st)
-
-abbrev pub lineCourse : Station → ℕ → Course
-lineCourse st = courseOf (st .parts) (length (st .cables)) (lowerOf st) (upperOf st)
 
 abbrev pub linePoints : Station → ℕ → List Spot
 linePoints st i = pointsOf (lineCourse st i)
@@ -100,10 +91,10 @@ module _ (st : Station) where
   unfolding spotAt drawing drawingBy drawingIn spotOf
   part-spot p h = getD-tabulate (st .parts) _ p origin h
 
-  abbrev cableAt : ℕ → Cable
+  abbrev pub cableAt : ℕ → Cable
   cableAt i = getD (st .cables) i noCable
 
-  abbrev routeOf : ℕ → Route
+  abbrev pub routeOf : ℕ → Route
   routeOf i = record {
     first = lowerPart (order st) (cableAt i);
     last = upperPart (order st) (cableAt i);
@@ -123,19 +114,19 @@ module _ (st : Station) where
   pub corners-at : (i : ℕ) → i < length (st .cables) → routeAt (drawing st) i .corners ≡ cornersOf (lineCourse st i)
   corners-at i h = ap (λ (r : Route). r .corners) (route-at i h)
 
-  first-rank : (i : ℕ) → i < length (st .cables) → rankIn (order st) (routeAt (drawing st) i .first) ≡ lowerOf st i
+  pub first-rank : (i : ℕ) → i < length (st .cables) → rankIn (order st) (routeAt (drawing st) i .first) ≡ lowerOf st i
   unfolding lowerRank
   first-rank i h = ap (rankIn (order st)) (first-at i h) ∙ lowerPart-rank (order st) (cableAt i)
 
-  last-rank : (i : ℕ) → i < length (st .cables) → rankIn (order st) (routeAt (drawing st) i .last) ≡ upperOf st i
+  pub last-rank : (i : ℕ) → i < length (st .cables) → rankIn (order st) (routeAt (drawing st) i .last) ≡ upperOf st i
   unfolding upperRank
   last-rank i h = ap (rankIn (order st)) (last-at i h) ∙ upperPart-rank (order st) (cableAt i)
 
   module _ (S : Sound st) where
-    first-inside : (i : ℕ) → i < length (st .cables) → routeAt (drawing st) i .first < st .parts
+    pub first-inside : (i : ℕ) → i < length (st .cables) → routeAt (drawing st) i .first < st .parts
     first-inside i h = let w = S .orderable .within i h in omega (arith, first-at i h, parts-inside (order st) (cableAt i) (st .parts) (w .0) (w .1) .0)
 
-    last-inside : (i : ℕ) → i < length (st .cables) → routeAt (drawing st) i .last < st .parts
+    pub last-inside : (i : ℕ) → i < length (st .cables) → routeAt (drawing st) i .last < st .parts
     last-inside i h = let w = S .orderable .within i h in omega (arith, last-at i h, parts-inside (order st) (cableAt i) (st .parts) (w .0) (w .1) .1)
 
     first-spot : (i : ℕ) → i < length (st .cables) → spotAt (drawing st) (routeAt (drawing st) i .first) ≡ rankSpot st (lowerOf st i)

@@ -24,7 +24,8 @@ use Rattle.hookup.specs.Demand.{routeAt, pointsAt, Sizes}
 use Rattle.hookup.proofs.ReadBack.{SpotFits, AllFit, RouteFits, DrawingFits, words-fit}
 use Rattle.hookup.proofs.WordCounts.{cornerCount, words-length, words-corners}
 use Rattle.hookup.proofs.Laid.{Stands}
-use Rattle.hookup.proofs.Drawn.{lowerOf, upperOf, rankSpot, lineCourse, linePoints, Sound, laidOf, parts-count, routes-count, part-spot, first-at, last-at, corners-at, points-at}
+use Rattle.hookup.specs.Plot.{lowerOf, upperOf, lineCourse}
+use Rattle.hookup.proofs.Drawn.{rankSpot, linePoints, Sound, laidOf, parts-count, routes-count, part-spot, first-at, last-at, corners-at, points-at}
 
 -- on plain numbers: the count of columns is one more than the width, the count of rows one more than the height
 width-number : (c n m : ℕ) → c + n ≡ m + 2 → 0 < c → suc (m + 1 - n) ≡ c

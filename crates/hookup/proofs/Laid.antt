@@ -6,14 +6,17 @@ use mathlib.Core.Logic.{_⊎_}
 use mathlib.Core.List.{List·Memᴰ}
 use lib.ListN.{length}
 use lib.Dec.{ltb}
+use borrow.Author.Tests.{lt-ltb}
 use Rattle.lists.specs.Select.{range, tabulate, count, sum}
+use Rattle.lists.proofs.Sums.{count-all}
 use Rattle.layout.specs.Ranked.{Ranked}
 use Rattle.layout.specs.Columns.{columns}
 use Rattle.layout.specs.Points.{Spot, pointsOf, cornersOf, bottomRows, topRows, partSpot, course, spotOf, courseOf}
 use Rattle.layout.specs.Lines.{Meetings}
 use Rattle.layout.proofs.Placed.{facts}
 use Rattle.layout.proofs.Meet.{meetings}
-use Rattle.layout.proofs.Width.{opened, opened-start, opened-suc, opened-all, degree}
+use Rattle.layout.proofs.Step.{ins, outs, length-outgoing}
+use Rattle.layout.proofs.Width.{opened, opened-start, opened-suc, opened-all}
 use Rattle.layout.proofs.Rows.{bottomRows-le, topRows-le}
 use Rattle.layout.proofs.Sizes.{columns-count, spots-within, points-within, width-spot, height-spot, corners-four, corners-sum, corners-many-count}
 
@@ -43,12 +46,19 @@ module _ (n m : ℕ) (lower upper : ℕ → ℕ) where
     pub bottom-le : bottomRows n m lower upper ≤ 1
     pub top-le : topRows n m lower upper ≤ 1
     -- at most four cables leave a rank
-    pub cables-le : m ≤ 4 * n
+    pub cables-le : m ≤ 2 * n
 
 module _ (n m : ℕ) (lower upper : ℕ → ℕ) (H : Ranked n m lower upper) where
-  opened-le : (k : ℕ) → opened m lower upper k ≤ 4 * k
-  opened-le zero = omega (arith, opened-start m lower upper)
-  opened-le (suc k) = omega (arith, opened-suc m lower upper k, degree n m lower upper H k, opened-le k)
+  -- the cables opened and the cables ended by the first k ranks, four at a rank
+  ends-le : (k : ℕ) → opened m lower upper k + opened m upper lower k ≤ 4 * k
+  unfolding ins outs
+  ends-le zero = omega (arith, opened-start m lower upper, opened-start m upper lower)
+  ends-le (suc k) =
+      omega (arith, opened-suc m lower upper k, opened-suc m upper lower k, length-outgoing m lower upper k, length-outgoing m upper lower k, H .four k, ends-le k)
+
+  ended-all : opened m upper lower n ≡ m
+  unfolding opened
+  ended-all = count-all (λ i. ltb (upper i) n) m (λ i h. lt-ltb (upper i) n (H .inside i h))
 
   pub laid : 2 ≤ n → Laid n m lower upper
   unfolding spotOf partSpot courseOf course
@@ -64,5 +74,5 @@ module _ (n m : ℕ) (lower upper : ℕ → ℕ) (H : Ranked n m lower upper) wh
     corners-many-count = corners-many-count n m lower upper H;
     bottom-le = bottomRows-le n m lower upper H;
     top-le = topRows-le n m lower upper H;
-    cables-le = omega (arith, opened-le n, opened-all n m lower upper H n (omega arith));
+    cables-le = omega (arith, ends-le n, opened-all n m lower upper H n (omega arith), ended-all);
   }

@@ -4,3 +4,5 @@ pub mod Sheet
 pub mod Outcome
 pub mod Reading
 pub mod Demand
+pub mod Plot
+pub mod Answer

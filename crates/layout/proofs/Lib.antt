@@ -18,6 +18,7 @@ pub mod Place
 pub mod Meet
 pub mod Maps
 pub mod Cross
+pub mod Agreement
 pub mod Insertion
 pub mod Collecting
 pub mod Bounds

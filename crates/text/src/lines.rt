@@ -3,7 +3,7 @@ ghost use mathlib.Core.Path.{_≡_};
 ghost use Prim.Native.Nat.{_+_, _*_, _≤_, _<_};
 ghost use lib.ListN.{length};
 ghost use Rattle.lists.specs.Stores.{Stored};
-ghost use Rattle.text.specs.Lines.{hexDigit, hexHalf, hexLine, hexLines, digits, refusedLine};
+ghost use Rattle.text.specs.Lines.{hexDigit, hexHalf, hexLine, hexLines, digits, decimal, refusedLine};
 
 // A text as it stands.
 pub fn put_text(out: &mut [u8], at: usize, text: &[u8]) -> usize
@@ -80,6 +80,14 @@ fn put_digits(out: &mut [u8], at: usize, x: usize, k: usize) -> usize
     let last = put_digits(out, at, x / 10, k - 1);
     out[last] = b'0' + (x % 10) as u8;
     last + 1
+}
+
+// A number in decimal.
+pub fn put_number(out: &mut [u8], at: usize, x: usize) -> usize
+    requires { ⌜ at + 20 ≤ length (now out) ⌝ }
+    ensures { λ r. ⌜ Stored (now (out .entry)) at (decimal x) (now (out .exit)) r ⌝ }
+{
+    put_digits(out, at, x, 20)
 }
 
 // A refusal's number and place on one line.

@@ -1,0 +1,164 @@
+// Draws every list of a stored file, for the gate: standard input holds for each list the count of its words and the words, each most significant
+// byte first. Each list is drawn with room to spare, filled with a mark; a sheet also with the exact room and with one word less, a refused
+// list also with no room. Printed are the answers, the sheet's words, and whether what lies behind them is as it was.
+use hookup::Answer;
+use libc::STDIN_FILENO;
+use libc::STDOUT_FILENO;
+use text::bytes::read_words;
+use text::lines::put_hex_lines;
+use text::lines::put_number;
+use text::lines::put_refused;
+
+const MARK: u32 = 0xa5a5_a5a5;
+
+fn say(text: &[u8]) {
+    io::write_all(STDOUT_FILENO, text);
+}
+
+// The first n bytes of a buffer.
+fn say_first(out: &[u8], n: usize) {
+    if n <= out.len() {
+        say(&out[..n]);
+    }
+}
+
+fn say_number(x: usize) {
+    let mut out = [0u8; 32];
+    let n = put_number(&mut out, 0, x);
+    say_first(&out, n);
+}
+
+fn say_words(words: &[u32]) {
+    if words.len() <= 2048 {
+        let mut out = [0u8; 18432];
+        let n = put_hex_lines(&mut out, 0, words);
+        say_first(&out, n);
+    }
+}
+
+fn say_answer(answer: Answer) {
+    match answer {
+        Answer::Sheet { words, crossings } => {
+            say(b"sheet ");
+            say_number(words);
+            say(b" ");
+            say_number(crossings as usize);
+            say(b"\n");
+        }
+        Answer::Refused { check, place } => {
+            let mut out = [0u8; 64];
+            let n = put_refused(&mut out, 0, check as usize, place);
+            say_first(&out, n);
+        }
+    }
+}
+
+// Every word of a row is the mark.
+fn is_marked(row: &[u32]) -> bool {
+    let mut i = 0;
+    while i < row.len() {
+        if row[i] != MARK {
+            return false;
+        }
+        i += 1;
+    }
+    true
+}
+
+fn say_kept(row: &[u32]) {
+    if is_marked(row) {
+        say(b"kept\n");
+    } else {
+        say(b"changed\n");
+    }
+}
+
+// Two rows hold the same words.
+fn is_same(a: &[u32], b: &[u32]) -> bool {
+    if a.len() != b.len() {
+        return false;
+    }
+    let mut i = 0;
+    while i < a.len() {
+        if a[i] != b[i] {
+            return false;
+        }
+        i += 1;
+    }
+    true
+}
+
+fn say_same(a: &[u32], b: &[u32]) {
+    if is_same(a, b) {
+        say(b"same\n");
+    } else {
+        say(b"other words\n");
+    }
+}
+
+// A list with room for so many words; the room and what lies behind it.
+fn draw_in(list: &[u32], row: &mut [u32], room: usize) {
+    if room <= row.len() {
+        say_answer(hookup::draw(list, &mut row[..room]));
+    }
+}
+
+// A sheet of k words once more, with the exact room and with one word less.
+fn draw_again(list: &[u32], first: &[u32], k: usize) {
+    let mut exact = [MARK; 2048];
+    draw_in(list, &mut exact, k);
+    say_same(first, &exact);
+    let mut short = [MARK; 2048];
+    if 0 < k {
+        draw_in(list, &mut short, k - 1);
+    }
+    say_kept(&short);
+}
+
+fn draw_sheet(list: &[u32], row: &[u32], k: usize) {
+    if k <= row.len() {
+        say_words(&row[..k]);
+        say_kept(&row[k..]);
+        draw_again(list, row, k);
+    }
+}
+
+fn draw_list(list: &[u32]) {
+    let mut row = [MARK; 2048];
+    let answer = hookup::draw(list, &mut row);
+    say_answer(answer);
+    match answer {
+        Answer::Sheet {
+            words,
+            crossings: _,
+        } => draw_sheet(list, &row, words),
+        Answer::Refused { check: _, place: _ } => {
+            say_kept(&row);
+            draw_in(list, &mut row, 0);
+            say_kept(&row);
+        }
+    }
+}
+
+// The lists of a file, one behind the other, each behind its count of words.
+fn draw_all(words: &[u32]) {
+    let mut at = 0;
+    while at < words.len() {
+        let k = words[at] as usize;
+        let start = at + 1;
+        if words.len() - start < k {
+            return;
+        }
+        let end = start + k;
+        draw_list(&words[start..end]);
+        at = end;
+    }
+}
+
+fn main() {
+    let mut bytes = [0u8; 65536];
+    let n = io::read_full(STDIN_FILENO, &mut bytes);
+    let mut words = [0u32; 16384];
+    let count = read_words(&bytes[..n], &mut words);
+    draw_all(&words[..count]);
+}

@@ -1,0 +1,40 @@
+-- What an answer of the call says, in document 01's terms, and what is promised of the output. Assumes nothing.
+use Prim.Native.Nat.{ℕ}
+use mathlib.Core.Path.{_≡_}
+use mathlib.Core.List.{List, _++_}
+use lib.ListN.{length, take, drop}
+use Rattle.hookup.specs.declared.Answer.{Answer}
+use Rattle.hookup.specs.declared.Answer.the-variants.{Sheet, Refused}
+use Rattle.hookup.specs.Outcome.{Outcome, drawn, sentBack, outcome}
+use Rattle.hookup.specs.Demand.{Demand3, Ordered}
+
+-- 'A successful call returns the words written and the crossings'; a refusal 'returns its number and one place'.
+pub data Reply : Type 0 where
+  counts : (words crossings : ℕ) → Reply
+  refusal : (check place : ℕ) → Reply
+
+-- the reply that an answer is
+abbrev pub replyOf : Answer → Reply
+replyOf (Sheet words crossings) = counts words crossings
+replyOf (Refused check place) = refusal check place
+
+-- the reply that an outcome asks for
+abbrev pub reply : Outcome → Reply
+reply (drawn words crossings) = counts (length words) crossings
+reply (sentBack check place) = refusal check place
+
+-- the output once an outcome is given: the sheet's words, then what stood there; a refusal 'writes no word'
+abbrev pub outputOf : Outcome → List ℕ → List ℕ
+outputOf (drawn words crossings) before = words ++ drop (length words) before
+outputOf (sentBack check place) before = before
+
+-- what is demanded of the words that a sheet leaves in the output: demand 3, and of demand 2 that the parts stand in the smallest st-ordering
+abbrev pub Demanded : Answer → List ℕ → List ℕ → Type 0
+Demanded (Sheet words crossings) list output = Demand3 list (take words output) × Ordered list (take words output)
+Demanded (Refused check place) list output = Unit
+
+-- a call on a list, with what stood in the output before and after
+pub record Drew (list before after : List ℕ) (answer : Answer) : Type 0 where
+  pub replies : replyOf answer ≡ reply (outcome list (length before))
+  pub output : after ≡ outputOf (outcome list (length before)) before
+  pub demands : Demanded answer list after
