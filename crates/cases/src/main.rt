@@ -42,7 +42,7 @@ fn say_answer(answer: Answer) {
             say(b"sheet ");
             say_number(words);
             say(b" ");
-            say_number(crossings as usize);
+            say_number(crossings);
             say(b"\n");
         }
         Answer::Refused { check, place } => {
@@ -96,30 +96,35 @@ fn say_same(a: &[u32], b: &[u32]) {
     }
 }
 
-// A list with room for so many words; the room and what lies behind it.
+// The answer for a list with room for so many words of a row.
 fn draw_in(list: &[u32], row: &mut [u32], room: usize) {
     if room <= row.len() {
         say_answer(hookup::draw(list, &mut row[..room]));
     }
 }
 
-// A sheet of k words once more, with the exact room and with one word less.
-fn draw_again(list: &[u32], first: &[u32], k: usize) {
-    let mut exact = [MARK; 2048];
-    draw_in(list, &mut exact, k);
-    say_same(first, &exact);
-    let mut short = [MARK; 2048];
-    if 0 < k {
-        draw_in(list, &mut short, k - 1);
-    }
-    say_kept(&short);
+// A sheet of k words once more, with the exact room.
+fn draw_exact(list: &[u32], first: &[u32], k: usize) {
+    let mut row = [MARK; 2048];
+    draw_in(list, &mut row, k);
+    say_same(first, &row);
+}
+
+// A list with room for so many words, which are too few.
+fn draw_short(list: &[u32], room: usize) {
+    let mut row = [MARK; 2048];
+    draw_in(list, &mut row, room);
+    say_kept(&row);
 }
 
 fn draw_sheet(list: &[u32], row: &[u32], k: usize) {
     if k <= row.len() {
         say_words(&row[..k]);
         say_kept(&row[k..]);
-        draw_again(list, row, k);
+        draw_exact(list, row, k);
+        if 0 < k {
+            draw_short(list, k - 1);
+        }
     }
 }
 
@@ -134,8 +139,7 @@ fn draw_list(list: &[u32]) {
         } => draw_sheet(list, &row, words),
         Answer::Refused { check: _, place: _ } => {
             say_kept(&row);
-            draw_in(list, &mut row, 0);
-            say_kept(&row);
+            draw_short(list, 0);
         }
     }
 }

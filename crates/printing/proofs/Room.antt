@@ -1,0 +1,39 @@
+-- The program's room is ample: more of it changes no answer, so check 11 never refuses there. Assumes nothing.
+use Prim.Native.Nat.{ℕ, _≤_}
+use mathlib.Core.Path.{_≡_, refl, sym, _∙_}
+use mathlib.Core.List.{List}
+use native.Mathlib.Omega.{arith}
+use lib.ListN.{length}
+use borrow.Author.Tests.{le-ltb}
+use Rattle.station.specs.Station.{stationOf}
+use Rattle.station.specs.Checks.{Verdict, passed, refused}
+use Rattle.order.specs.Verdict.{verdict10}
+use Rattle.order.proofs.Passed.{list-wired}
+use Rattle.hookup.specs.Drawing.{Drawing, drawing, crossings}
+use Rattle.hookup.specs.Sheet.{sheetWords}
+use Rattle.hookup.specs.Outcome.{drawn, fitted, orDrawn, outcome}
+use Rattle.hookup.proofs.Demand3.{demand3, corner-words, all-words}
+use Rattle.printing.specs.Printed.{room, printed}
+
+-- '3m - n + 3 + d + e words', where n is at most 256 and m at most 2n
+words-within : (list : List ℕ) → verdict10 list ≡ passed → length (sheetWords (drawing (stationOf list))) ≤ room
+words-within list p = omega (arith, all-words list p, corner-words list p, demand3 list p .sizes .corners, list-wired list p .few, list-wired list p .most)
+
+fitted-ample : (d : Drawing) (words : ℕ) → length (sheetWords d) ≤ words → fitted d words ≡ drawn (sheetWords d) (crossings d)
+unfolding fitted
+fitted-ample d words h = rw (le-ltb words (length (sheetWords d)) h) refl
+
+pub room-ample : (list : List ℕ) (words : ℕ) → room ≤ words → outcome list words ≡ outcome list room
+unfolding outcome orDrawn
+room-ample list words h = go (verdict10 list) refl
+  where
+    go : (v : Verdict) → verdict10 list ≡ v → orDrawn v (fitted (drawing (stationOf list)) words) ≡ orDrawn v (fitted (drawing (stationOf list)) room)
+    go passed e =
+        let s : length (sheetWords (drawing (stationOf list))) ≤ room = words-within list e in
+        fitted-ample (drawing (stationOf list)) words (omega arith) ∙ sym (fitted-ample (drawing (stationOf list)) room s)
+    go (refused check place) e = refl
+
+-- what is printed is what ample room gives
+pub printed-ample : (bytes : List ℕ) (words : ℕ) → room ≤ words → printed bytes words ≡ printed bytes room
+unfolding printed
+printed-ample bytes words h = rw (room-ample _ words h) refl

@@ -1,0 +1,86 @@
+-- `printing::print_list` meets its contract. Assumes nothing.
+use mathlib.Core.Path.{sym, ap, _∙_}
+use native.Mathlib.Omega.{arith}
+use borrow.Author.Needs.{needs}
+use lib.Seq.{length-take-le}
+use Rattle.hookup.specs.Outcome.{outcome}
+use Rattle.hookup.specs.Answer.{replyOf}
+use Rattle.printing.specs.Printed.{room}
+use Rattle.printing.proofs.AnswerLaws.{sheet-stored, refused-stored, sheet-within, outcome-within}
+use Rattle.printing.proofs.print_list.Statement.{statement}
+use Rattle.printing.proofs.print_list.Tie as tie
+
+slice-aggregate-draw : tie.Need-slice-aggregate-draw
+slice-aggregate-draw c = search needs
+
+draw-requires : tie.Need-draw-requires
+draw-requires c κs = search needs
+
+enum-known-words : tie.Need-enum-known-words
+enum-known-words c = search needs
+
+array-share-prefix-sheet : tie.Need-array-share-prefix-sheet
+array-share-prefix-sheet c =
+    let arm = c .before .before in
+    let call = arm .before .before .before in
+    let list = call .before .before .before .before .args .list .now in
+    omega (arith, sheet-within room (outcome list room) (outcome-within list room) (sym (call .draw .ensures .replies) ∙ ap replyOf (arm .words .given .1)), call .draw .kept .1 .0)
+
+slice-aggregate-put-hex-lines : tie.Need-slice-aggregate-put-hex-lines
+slice-aggregate-put-hex-lines c =
+    let arm = c .before .before .before in
+    sym (length-take-le (arm .words .given .0 .0) (arm .before .before .before .draw .last .1 .0) (array-share-prefix-sheet (c .before)))
+
+put-hex-lines-requires : tie.Need-put-hex-lines-requires
+put-hex-lines-requires c κs =
+    let arm = c .before .before .before in
+    let call = arm .before .before .before in
+    let list = call .before .before .before .before .args .list .now in
+    omega (arith, slice-aggregate-put-hex-lines c, sheet-within room (outcome list room) (outcome-within list room) (sym (call .draw .ensures .replies) ∙ ap replyOf (arm .words .given .1)))
+
+enum-known-check : tie.Need-enum-known-check
+enum-known-check c = search needs
+
+cast-put-refused : tie.Need-cast-put-refused
+cast-put-refused c = search needs
+
+put-refused-requires : tie.Need-put-refused-requires
+put-refused-requires c κs = search needs
+
+same-length : tie.Need-same-length
+same-length c = search needs
+
+returns : tie.Need-returns
+returns c =
+    let arm = c .before .before .before .before .before .before in
+    let call = arm .before .before .before in
+    let list = call .before .before .before .before .args .list .now in
+    sheet-stored (outcome list room) (arm .words .given .0 .0) _ _ (sym (call .draw .ensures .replies) ∙ ap replyOf (arm .words .given .1)) (call .draw .ensures .output) (c .before .before .put-hex-lines .ensures)
+
+same-length-2 : tie.Need-same-length-2
+same-length-2 c = search needs
+
+returns-2 : tie.Need-returns-2
+returns-2 c =
+    let arm = c .before .before .before .before .before in
+    let call = arm .before .before .before in
+    let list = call .before .before .before .before .args .list .now in
+    refused-stored (outcome list room) (sym (call .draw .ensures .replies) ∙ ap replyOf (arm .check .given .1)) (c .before .before .put-refused .ensures)
+
+pub print-list-spec : {M : Type 1} → statement M
+print-list-spec =
+    tie.close
+    (tie.spec
+    slice-aggregate-draw
+    draw-requires
+    enum-known-words
+    array-share-prefix-sheet
+    slice-aggregate-put-hex-lines
+    put-hex-lines-requires
+    enum-known-check
+    cast-put-refused
+    put-refused-requires
+    same-length
+    returns
+    same-length-2
+    returns-2)

@@ -1,0 +1,2 @@
+-- What document 01's sheet program prints. Assumes nothing.
+pub mod Printed
