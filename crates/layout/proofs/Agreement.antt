@@ -8,41 +8,12 @@ use lib.ListN.{length, getD, replicate}
 use lib.Dec.{eqb, leb}
 use Rattle.lists.specs.Select.{range, tabulate, filter, indexOf, insertBy, sortBy, oneIf, consIf}
 use Rattle.lists.proofs.Select.{range-e, filter-e}
+use Rattle.lists.proofs.Filters.{filter-same}
+use Rattle.lists.proofs.Agree.{map-same, tabulate-same, sortBy-same}
 use Rattle.lists.proofs.Sort.{sortBy-e}
 use Rattle.layout.specs.Ranked.{linesAt, Ranked}
 use Rattle.layout.specs.Columns.{Columns, takenPlace, newLeft, newRight, newLast, moved, outgoing, incoming, taken, columnAt, step, columns}
 use Rattle.layout.specs.Points.{Spot, Course, bottomRows, topRows, row, isBottom, isTop, partSpot, course, courseOf}
-
--- Lists
-
-filter-same : {A : Type 0} (p q : A → Bool) (l : List A) → ((x : A) → List·Memᴰ x l → p x ≡ q x) → filter p l ≡ filter q l
-unfolding filter
-filter-same p q [] h = refl
-filter-same p q (x ∷ xs) h = rw (h x (List·Memᴰ·head refl), filter-same p q xs (λ y m. h y (List·Memᴰ·tail m))) refl
-
-map-same : {A : Type 0} (f g : ℕ → A) (l : List ℕ) → ((x : ℕ) → List·Memᴰ x l → f x ≡ g x) → map f l ≡ map g l
-map-same f g [] h = refl
-map-same {A} f g (x ∷ xs) h = ap₂ (λ (y : A) (l : List A). y ∷ l) (h x (List·Memᴰ·head refl)) (map-same f g xs (λ y m. h y (List·Memᴰ·tail m)))
-
-tabulate-same : {A : Type 0} (n : ℕ) (f g : ℕ → A) → ((i : ℕ) → i < n → f i ≡ g i) → tabulate n f ≡ tabulate n g
-unfolding tabulate
-tabulate-same n f g h = map-same f g (range n) (λ i m. h i (range-e n m))
-
-insertBy-same :
-    (f g : ℕ → ℕ) (x : ℕ) (l : List ℕ) → f x ≡ g x → ((y : ℕ) → List·Memᴰ y l → f y ≡ g y) → insertBy f x l ≡ insertBy g x l
-unfolding insertBy
-insertBy-same f g x [] e h = refl
-insertBy-same f g x (y ∷ ys) e h =
-    rw (e, h y (List·Memᴰ·head refl), insertBy-same f g x ys e (λ z m. h z (List·Memᴰ·tail m))) refl
-
-sortBy-same : (f g : ℕ → ℕ) (l : List ℕ) → ((y : ℕ) → List·Memᴰ y l → f y ≡ g y) → sortBy f l ≡ sortBy g l
-unfolding sortBy
-sortBy-same f g [] h = refl
-sortBy-same f g (x ∷ xs) h =
-    insertBy-same f g x (sortBy f xs) (h x (List·Memᴰ·head refl)) (λ y m. h y (List·Memᴰ·tail (sortBy-e f xs m)))
-    ∙ ap (insertBy g x) (sortBy-same f g xs (λ y m. h y (List·Memᴰ·tail m)))
-
--- The layout
 
 lines-below : (m : ℕ) (rank : ℕ → ℕ) (k : ℕ) {i : ℕ} → List·Memᴰ i (linesAt m rank k) → i < m
 unfolding linesAt

@@ -19,3 +19,4 @@ pub mod Storing
 pub mod Pairs
 pub mod Filters
 pub mod Kept
+pub mod Agree
