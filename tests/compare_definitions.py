@@ -63,12 +63,11 @@ def main(a):
         shutil.rmtree(os.path.join(hookup, 'src'))
         os.makedirs(os.path.join(hookup, 'proofs'))
         os.makedirs(os.path.join(hookup, 'src'))
-        keep = ['hookup', 'lists', 'words', 'station', 'order', 'layout', 'writer']
+        keep = ['hookup', 'lists', 'words', 'station', 'drawing', 'order', 'layout', 'writer']
         # what only the code's contracts cite goes with the code
-        for name in ('Answer', 'Plot'):
-            os.remove(os.path.join(hookup, 'specs', name + '.antt'))
+        os.remove(os.path.join(hookup, 'specs/Answer.antt'))
         with open(os.path.join(hookup, 'specs/Lib.antt'), encoding='utf-8') as f:
-            modules = [r for r in f.read().split('\n') if r not in ('pub mod Answer', 'pub mod Plot')]
+            modules = [r for r in f.read().split('\n') if r != 'pub mod Answer']
         with open(os.path.join(hookup, 'specs/Lib.antt'), 'w', encoding='utf-8') as f:
             f.write('\n'.join(modules))
         with open(os.path.join(top, 'crates.txt'), encoding='utf-8') as f:

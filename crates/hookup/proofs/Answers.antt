@@ -1,8 +1,7 @@
 -- What makes an answer right: a refusal by checks 1 to 10, a sheet too long for the output, a sheet that is written. Assumes nothing.
-use Prim.Native.Nat.{ℕ, suc, _+_, _-_, _*_, _<_, _≤_}
+use Prim.Native.Nat.{ℕ, _<_, _≤_}
 use native.Mathlib.Omega.{arith}
 use mathlib.Core.Path.{_≡_, refl, sym, ap, ap₂, _∙_, subst}
-use mathlib.Core.Bool.{cond, true, false}
 use mathlib.Core.List.{List, _++_}
 use lib.ListN.{length, take, drop}
 use lib.Seq.{take-at}
@@ -11,21 +10,19 @@ use borrow.Author.Tests.{lt-ltb, le-ltb}
 use Rattle.lists.specs.declared.Found.the-variants.{At, Nothing}
 use Rattle.lists.specs.Stores.{Stored}
 use Rattle.lists.proofs.Stores.{stored-as, stored-front}
-use Rattle.station.specs.Station.{Station, stationOf}
+use Rattle.station.specs.Station.{stationOf}
 use Rattle.station.specs.Checks.{Verdict, passed, refused, orElse, checked, verdict8}
 use Rattle.station.proofs.Passed.{checked-clear, checked-refused}
 use Rattle.order.specs.Reach.{check9, check10}
 use Rattle.order.specs.Verdict.{verdict10}
-use Rattle.layout.specs.Points.{bottomRows, topRows}
+use Rattle.drawing.specs.Drawing.{crossings}
+use Rattle.drawing.specs.Sheet.{sheetWords}
 use Rattle.hookup.specs.declared.Answer.the-variants.{Sheet, Refused}
-use Rattle.hookup.specs.Drawing.{Drawing, drawingIn, drawingBy, drawing, crossings}
-use Rattle.hookup.specs.Sheet.{sheetWords}
+use Rattle.hookup.specs.Drawing.{drawing}
 use Rattle.hookup.specs.Outcome.{Outcome, drawn, sentBack, fitted, orDrawn, outcome}
 use Rattle.hookup.specs.Demand.{Demand3, Ordered}
 use Rattle.hookup.specs.Answer.{counts, reply, outputOf, Drew}
-use Rattle.hookup.specs.Plot.{lowerOf, upperOf, Plotted}
-use Rattle.hookup.proofs.Drawn.{laidOf}
-use Rattle.hookup.proofs.Demand3.{sound, demand3, ordered, all-words, numbers-fit}
+use Rattle.hookup.proofs.Demand3.{demand3, ordered}
 
 -- Verdicts
 
@@ -93,33 +90,3 @@ drew-sheet list before after words n k e f h S g =
       output = rest ∙ sym (ap (λ (z : Outcome). outputOf z before) o);
       demands = (subst (λ (l : List ℕ). Demand3 list l) (sym front) (demand3 list e), subst (λ (l : List ℕ). Ordered list l) (sym front) (ordered list e));
     }
-
--- Sizes
-
-module _ (list : List ℕ) (pass : verdict10 list ≡ passed) where
-  pub parts-le : stationOf list .parts ≤ length (stationOf list .cables) + 1
-  parts-le =
-      let S = sound list pass in
-      let L = laidOf (stationOf list) S in
-      omega (arith, L .columns-count, L .spots-within 0 (omega (arith, S .three)) .0)
-
-  -- four cables at a part at most
-  pub cables-most : length (stationOf list .cables) ≤ 512
-  cables-most = omega (arith, laidOf (stationOf list) (sound list pass) .cables-le, sound list pass .most)
-
-  pub width-of : (n m : ℕ) → n ≡ stationOf list .parts → m ≡ length (stationOf list .cables) → m + 1 - n ≡ drawing (stationOf list) .width
-  unfolding drawing drawingBy drawingIn
-  width-of n m e f = ap₂ (λ (a b : ℕ). b + 1 - a) e f
-
-  pub height-of :
-      (n : ℕ) {d e : ℕ} → n ≡ stationOf list .parts
-      → d ≡ bottomRows (stationOf list .parts) (length (stationOf list .cables)) (lowerOf (stationOf list)) (upperOf (stationOf list))
-      → e ≡ topRows (stationOf list .parts) (length (stationOf list .cables)) (lowerOf (stationOf list)) (upperOf (stationOf list))
-      → n - 1 + d + e ≡ drawing (stationOf list) .height
-  unfolding drawing drawingBy drawingIn
-  height-of n e f g = ap₂ (λ (a b : ℕ). a + b) (ap₂ (λ (a b : ℕ). a - 1 + b) e f) g
-
-  pub words-of :
-      {rs xs table : List ℕ} {d e : ℕ} (n m : ℕ) → n ≡ length rs → m ≡ length (stationOf list .cables) → Plotted (stationOf list) rs xs d e table
-      → 3 * m + 3 + d + e - n ≡ length (sheetWords (drawing (stationOf list)))
-  words-of n m p q P = omega (arith, all-words list pass, P .parts, P .below, P .above)

@@ -1,40 +1,59 @@
 -- Demand 3, whole, and the order of demand 2, for the words of the drawing of every list that is not sent back. Assumes nothing.
-use Prim.Native.Nat.{ℕ, _+_, _*_, _<_, _≤_, _^_}
-use mathlib.Core.Path.{_≡_, refl, sym, _∙_, subst}
+use Prim.Native.Nat.{ℕ, _+_, _<_, _≤_, _^_}
+use native.Mathlib.Omega.{arith}
+use mathlib.Core.Path.{_≡_, refl, sym, ap, _∙_, subst}
 use mathlib.Core.Logic.{inl, inr, ⊎-elim}
 use mathlib.Core.List.{List, List·Memᴰ}
-use lib.ListN.{length, getD}
-use lib.Dec.{eqb}
-use Rattle.lists.specs.Select.{count}
-use Rattle.words.specs.Words.{kindOf, secondOf, corner}
+use lib.ListN.{length, getD, length-map}
+use Rattle.lists.proofs.Select.{getD-map}
+use Rattle.words.specs.Words.{secondOf}
 use Rattle.station.specs.Station.{Station, stationOf}
 use Rattle.station.specs.Checks.{passed}
 use Rattle.order.specs.Order.{order, rankIn}
 use Rattle.order.specs.Verdict.{verdict10}
-use Rattle.order.specs.Ends.{noCable}
+use Rattle.order.specs.Ends.{noCable, lowerPart, upperPart, graphOf}
 use Rattle.order.specs.StOrder.{Smallest}
 use Rattle.order.proofs.StOrder.{order-smallest}
-use Rattle.order.proofs.Passed.{list-wired, list-orderable, list-ranked}
-use Rattle.hookup.specs.Drawing.{Drawing, drawing}
-use Rattle.hookup.specs.Sheet.{sheetWords}
-use Rattle.hookup.specs.Reading.{drawingOf}
-use Rattle.hookup.specs.Demand.{Meets, Form, Sizes, Demand3, Ordered}
-use Rattle.hookup.proofs.ReadBack.{DrawingFits, read-back}
-use Rattle.hookup.proofs.Drawn.{Sound, parts-joined, parts-count, routes-count, first-at, last-at, drawing-meets}
-use Rattle.hookup.proofs.DrawnSizes.{below, above, drawing-fits, few-lines, sheet-fits, sheet-corners, sheet-length, drawing-sizes}
-use Rattle.hookup.proofs.Rows.{word-of-row, parts-by-row}
+use Rattle.order.proofs.Ends.{parts-joined}
+use Rattle.order.proofs.Passed.{list-wired, list-orderable, list-ranked, cables-most}
+use Rattle.drawing.specs.Drawing.{Drawing, routeAt, Meets}
+use Rattle.drawing.specs.Sheet.{sheetWords}
+use Rattle.drawing.specs.Reading.{Ends, noEnds}
+use Rattle.drawing.specs.Sizes.{Sizes}
+use Rattle.drawing.proofs.ReadBack.{DrawingFits, words-fit}
+use Rattle.hookup.specs.Drawing.{drawing}
+use Rattle.hookup.specs.Reading.{endsBy, drawingOf}
+use Rattle.hookup.specs.Demand.{Form, Demand3, Ordered}
+use Rattle.hookup.proofs.Drawn as drawn
+use Rattle.hookup.proofs.Drawn.{Sound, endsOf, fits, reads, meets, sizes}
+use Rattle.hookup.proofs.Rows.{below, word-of-row, parts-by-row}
 
-drawing-form : (st : Station) → Form st (drawing st) (sheetWords (drawing st))
-drawing-form st = record {
-  words = refl;
-  parts = parts-count st;
-  cables = routes-count st;
-  joins = λ i h.
-      ⊎-elim
-      (λ e. inl (first-at st i h ∙ e .0, last-at st i h ∙ e .1))
-      (λ e. inr (first-at st i h ∙ e .0, last-at st i h ∙ e .1))
-      (parts-joined (order st) (getD (st .cables) i noCable));
-}
+module _ (st : Station) (S : Sound st) where
+  ends-at : (i : ℕ) → i < length (st .cables) → getD (endsOf st) i noEnds ≡ endsBy (order st) (getD (st .cables) i noCable)
+  ends-at i h = getD-map (endsBy (order st)) (st .cables) i noCable noEnds h
+
+  in-ends : (i : ℕ) → i < length (st .cables) → i < length (endsOf st)
+  in-ends i h = omega (arith, length-map (st .cables) (endsBy (order st)))
+
+  first-at : (i : ℕ) → i < length (st .cables) → routeAt (drawing st) i .first ≡ lowerPart (order st) (getD (st .cables) i noCable)
+  unfolding routeAt endsBy
+  first-at i h = fits st S .routes-fit i (in-ends i h) .first-is ∙ ap (λ (e : Ends). e .first) (ends-at i h)
+
+  last-at : (i : ℕ) → i < length (st .cables) → routeAt (drawing st) i .last ≡ upperPart (order st) (getD (st .cables) i noCable)
+  unfolding routeAt endsBy
+  last-at i h = fits st S .routes-fit i (in-ends i h) .last-is ∙ ap (λ (e : Ends). e .last) (ends-at i h)
+
+  form : Form st (drawing st) (sheetWords (drawing st))
+  form = record {
+    words = refl;
+    parts = fits st S .parts-count;
+    cables = fits st S .routes-count ∙ length-map (st .cables) (endsBy (order st));
+    joins = λ i h.
+        ⊎-elim
+        (λ e. inl (first-at i h ∙ e .0, last-at i h ∙ e .1))
+        (λ e. inr (first-at i h ∙ e .0, last-at i h ∙ e .1))
+        (parts-joined (order st) (getD (st .cables) i noCable));
+  }
 
 module _ (list : List ℕ) (pass : verdict10 list ≡ passed) where
   pub sound : Sound (stationOf list)
@@ -46,9 +65,9 @@ module _ (list : List ℕ) (pass : verdict10 list ≡ passed) where
   }
 
   -- what is read off the sheet is the drawing
-  pub reads : drawingOf list (sheetWords (drawing (stationOf list))) ≡ drawing (stationOf list)
+  read-off : drawingOf list (sheetWords (drawing (stationOf list))) ≡ drawing (stationOf list)
   unfolding drawingOf
-  reads = read-back (stationOf list) (drawing (stationOf list)) (drawing-fits (stationOf list) sound)
+  read-off = reads (stationOf list) sound
 
   -- demand 3
   pub demand3 : Demand3 list (sheetWords (drawing (stationOf list)))
@@ -56,9 +75,9 @@ module _ (list : List ℕ) (pass : verdict10 list ≡ passed) where
       let st : Station = stationOf list in
       let sheet : List ℕ = sheetWords (drawing st) in
       record {
-        form = subst (λ (d : Drawing). Form st d sheet) (sym reads) (drawing-form st);
-        meetings = subst (λ (d : Drawing). Meets st d) (sym reads) (drawing-meets st sound);
-        sizes = subst (λ (d : Drawing). Sizes st d sheet) (sym reads) (drawing-sizes st sound);
+        form = subst (λ (d : Drawing). Form st d sheet) (sym read-off) (form st sound);
+        meetings = subst (λ (d : Drawing). Meets d) (sym read-off) (meets st sound);
+        sizes = subst (λ (d : Drawing). Sizes (st .parts) (length (st .cables)) d sheet) (sym read-off) (sizes st sound);
       }
 
   -- of demand 2: 'The parts stand in the smallest st-ordering between the two named ends'
@@ -66,26 +85,17 @@ module _ (list : List ℕ) (pass : verdict10 list ≡ passed) where
   ordered = subst (λ (l : List ℕ). Smallest (stationOf list) l) (sym (parts-by-row list sound)) (order-smallest (stationOf list) (list-orderable list pass))
 
   -- 'Rank k stands in row d + k.': of the word of part p
-  pub rows : (p : ℕ) → p < stationOf list .parts → secondOf (getD (sheetWords (drawing (stationOf list))) (1 + p) 0) ≡ below (stationOf list) + rankIn (order (stationOf list)) p
+  pub rows :
+      (p : ℕ) → p < stationOf list .parts
+      → secondOf (getD (sheetWords (drawing (stationOf list))) (1 + p) 0) ≡ below (stationOf list) sound + rankIn (order (stationOf list)) p
   rows = word-of-row (stationOf list) sound
 
-  -- 'The sheet has .. 2m - 2n + 2 + d + e corners and 3m - n + 3 + d + e words.'
-  pub corner-words :
-      count (λ w. eqb (kindOf w) corner) (sheetWords (drawing (stationOf list))) + 2 * stationOf list .parts
-      ≡ 2 * length (stationOf list .cables) + 2 + below (stationOf list) + above (stationOf list)
-  corner-words = sheet-corners (stationOf list) sound
+  -- every word has 32 bits
+  pub sheet-fits : (w : ℕ) → List·Memᴰ w (sheetWords (drawing (stationOf list))) → w < 2 ^ 32
+  sheet-fits =
+      words-fit (stationOf list .parts) (endsOf (stationOf list)) (drawing (stationOf list)) (fits (stationOf list) sound)
+      (omega (arith, length-map (stationOf list .cables) (endsBy (order (stationOf list))), cables-most list pass))
 
-  pub all-words :
-      length (sheetWords (drawing (stationOf list))) + stationOf list .parts
-      ≡ 3 * length (stationOf list .cables) + 3 + below (stationOf list) + above (stationOf list)
-  all-words = sheet-length (stationOf list) sound
-
-  -- every number fits its field, and every word 32 bits
-  pub numbers-fit : DrawingFits (stationOf list) (drawing (stationOf list))
-  numbers-fit = drawing-fits (stationOf list) sound
-
-  pub lines-fit : length (stationOf list .cables) ≤ 65536
-  lines-fit = few-lines (stationOf list) sound
-
-  pub words-fit : (w : ℕ) → List·Memᴰ w (sheetWords (drawing (stationOf list))) → w < 2 ^ 32
-  words-fit = sheet-fits (stationOf list) sound
+  -- an output of so many words always suffices
+  pub words-most : length (sheetWords (drawing (stationOf list))) ≤ 1285
+  words-most = drawn.words-most (stationOf list) sound

@@ -1,161 +1,160 @@
--- The drawing of a station whose parts are in order: its parts and routes by number, and what holds of them by part number. Assumes nothing.
-use Prim.Native.Nat.{ℕ, _<_, _≤_, min, max}
+-- The drawing of a station that was not sent back: it is the layout of its cables in ranks, under the parts' own numbers, and has its meetings,
+-- sizes and crossings. Assumes nothing.
+use Prim.Native.Nat.{ℕ, _+_, _*_, _<_, _≤_}
 use native.Mathlib.Omega.{arith}
-use mathlib.Core.Path.{_≡_, refl, sym, ap, _∙_}
-use mathlib.Core.Logic.{_⊎_, inl, inr, ⊎-elim}
-use mathlib.Core.Bool.{Bool, true, false, cond}
-use mathlib.Core.List.{List, [], _∷_, _++_}
-use lib.ListN.{length, getD}
-use lib.Dec.{leb}
-use borrow.Author.Tests.{leb-true, leb-false}
-use Rattle.lists.proofs.Select.{getD-tabulate, length-tabulate}
-use Rattle.lists.proofs.Places.{first-between-last}
+use mathlib.Core.Path.{_≡_, refl, sym, ap, subst, _∙_}
+use mathlib.Core.List.{List, map}
+use lib.ListN.{length, getD, length-map}
+use lib.Seq.{ext-getD}
+use Rattle.lists.specs.Select.{tabulate, count}
+use Rattle.lists.proofs.Select.{getD-map, getD-tabulate, length-tabulate}
 use Rattle.station.specs.Station.{Cable, Station}
 use Rattle.order.specs.Order.{order, rankIn}
-use Rattle.order.specs.Ends.{noCable, lowerRank, upperRank, lowerPart, upperPart}
+use Rattle.order.specs.StOrder.{StOrdering}
+use Rattle.order.specs.Graph.{StGraph, size, lower, upper, Ranked}
+use Rattle.order.specs.Ends.{noCable, lowerPart, upperPart, graphOf}
 use Rattle.order.proofs.Weak.{Orderable}
-use Rattle.order.proofs.Ranks.{rank-below, rank-one}
-use Rattle.layout.specs.Ranked.{Ranked}
-use Rattle.layout.specs.Points.{Spot, origin, pointsOf, inner, cornersOf, spotOf, courseOf}
-use Rattle.layout.specs.Lines.{point}
-use Rattle.hookup.specs.Drawing.{Route, spotAt, routePoints, drawingIn, drawingBy, drawing}
-use Rattle.hookup.specs.Plot.{lowerOf, upperOf, lineCourse}
-use Rattle.hookup.specs.Demand.{noRoute, routeAt, pointsAt, Meets}
-use Rattle.hookup.proofs.Laid.{Laid, laid}
-use Rattle.hookup.proofs.Renaming.{renamed}
-
--- The two parts of a cable
-
-module _ (l : List ℕ) (c : Cable) where
-  pub lowerPart-rank : rankIn l (lowerPart l c) ≡ min (rankIn l (c .one)) (rankIn l (c .other))
-  unfolding lowerPart
-  lowerPart-rank = go (leb (rankIn l (c .one)) (rankIn l (c .other))) refl
-    where
-      go : (b : Bool) → leb (rankIn l (c .one)) (rankIn l (c .other)) ≡ b → rankIn l (cond b (c .one) (c .other)) ≡ min (rankIn l (c .one)) (rankIn l (c .other))
-      go true e = omega (arith, leb-true (rankIn l (c .one)) (rankIn l (c .other)) e)
-      go false e = omega (arith, leb-false (rankIn l (c .one)) (rankIn l (c .other)) e)
-
-  pub upperPart-rank : rankIn l (upperPart l c) ≡ max (rankIn l (c .one)) (rankIn l (c .other))
-  unfolding upperPart
-  upperPart-rank = go (leb (rankIn l (c .one)) (rankIn l (c .other))) refl
-    where
-      go : (b : Bool) → leb (rankIn l (c .one)) (rankIn l (c .other)) ≡ b → rankIn l (cond b (c .other) (c .one)) ≡ max (rankIn l (c .one)) (rankIn l (c .other))
-      go true e = omega (arith, leb-true (rankIn l (c .one)) (rankIn l (c .other)) e)
-      go false e = omega (arith, leb-false (rankIn l (c .one)) (rankIn l (c .other)) e)
-
-  -- 'A cable joins the two parts that its list word names.'
-  pub parts-joined :
-      ((lowerPart l c ≡ c .one) × (upperPart l c ≡ c .other)) ⊎ ((lowerPart l c ≡ c .other) × (upperPart l c ≡ c .one))
-  unfolding lowerPart upperPart
-  parts-joined = go (leb (rankIn l (c .one)) (rankIn l (c .other)))
-    where
-      go :
-          (b : Bool)
-          → ((cond b (c .one) (c .other) ≡ c .one) × (cond b (c .other) (c .one) ≡ c .other))
-          ⊎ ((cond b (c .one) (c .other) ≡ c .other) × (cond b (c .other) (c .one) ≡ c .one))
-      go true = inl (refl, refl)
-      go false = inr (refl, refl)
-
-  pub parts-inside : (n : ℕ) → c .one < n → c .other < n → (lowerPart l c < n) × (upperPart l c < n)
-  parts-inside n h g = ⊎-elim (λ e. omega (arith, e .0, e .1)) (λ e. omega (arith, e .0, e .1)) parts-joined
-
--- The drawing
-
--- as the layout gives them: the spot of each rank, and the points of each cable by line
-abbrev pub rankSpot : Station → ℕ → Spot
-rankSpot st = spotOf (st .parts) (length (st .cables)) (lowerOf st) (upperOf st)
-
-abbrev pub linePoints : Station → ℕ → List Spot
-linePoints st i = pointsOf (lineCourse st i)
+use Rattle.order.proofs.StOrder.{order-ordering}
+use Rattle.order.proofs.Ranks.{graph-parts, graph-size, rank-below, part-of-rank, rank-of-part}
+use Rattle.order.proofs.Graphs.{cables-le}
+use Rattle.order.proofs.Ends.{parts-joined, lower-part, upper-part}
+use Rattle.drawing.specs.Drawing.{Drawing, routeAt, Meets, crossings, renumbered}
+use Rattle.drawing.specs.Sheet.{sheetWords}
+use Rattle.drawing.specs.Reading.{Ends, noEnds, drawingIn}
+use Rattle.drawing.specs.Sizes.{Sizes}
+use Rattle.drawing.proofs.ReadBack.{RouteFits, DrawingFits, read-back}
+use Rattle.drawing.proofs.Renumbered.{Names, meets-renumbered, crossings-renumbered, length-renumbered}
+use Rattle.drawing.specs.Counts.{isCorner}
+use Rattle.drawing.proofs.Sized.{named, fits-renumbered, corner-words-renumbered, sizes-renumbered}
+use Rattle.layout.specs.Points.{bottomRows, topRows}
+use Rattle.layout.specs.Layout.{layout}
+use Rattle.layout.proofs.Rows.{bottomRows-le, topRows-le}
+use Rattle.layout.proofs.Drawn as laid
+use Rattle.hookup.specs.Drawing.{drawingBy, drawing}
+use Rattle.hookup.specs.Reading.{endsBy, readBy}
 
 -- What is known of a station that was not sent back: its size, that it has an order, and that the layout may start from the ranks.
 pub record Sound (st : Station) : Type 0 where
   pub orderable : Orderable st
-  pub ranked : Ranked (st .parts) (length (st .cables)) (lowerOf st) (upperOf st)
+  pub ranked : Ranked (graphOf st)
   pub three : 3 ≤ st .parts
   pub most : st .parts ≤ 256
 
-pub laidOf : (st : Station) → Sound st → Laid (st .parts) (length (st .cables)) (lowerOf st) (upperOf st)
-laidOf st S = laid (st .parts) (length (st .cables)) (lowerOf st) (upperOf st) (S .ranked) (omega (arith, S .three))
+-- the cables' two parts, by line, as a sheet of the station is read
+abbrev pub endsOf : Station → List Ends
+endsOf st = map (endsBy (order st)) (st .cables)
 
 module _ (st : Station) where
-  pub parts-count : length (drawing st .parts) ≡ st .parts
-  unfolding drawing drawingBy drawingIn
-  parts-count = length-tabulate (st .parts) _
-
-  pub routes-count : length (drawing st .routes) ≡ length (st .cables)
-  unfolding drawing drawingBy drawingIn
-  routes-count = length-tabulate (length (st .cables)) _
-
-  pub part-spot : (p : ℕ) → p < st .parts → spotAt (drawing st) p ≡ rankSpot st (rankIn (order st) p)
-  unfolding spotAt drawing drawingBy drawingIn spotOf
-  part-spot p h = getD-tabulate (st .parts) _ p origin h
-
-  abbrev pub cableAt : ℕ → Cable
-  cableAt i = getD (st .cables) i noCable
-
-  abbrev pub routeOf : ℕ → Route
-  routeOf i = record {
-    first = lowerPart (order st) (cableAt i);
-    last = upperPart (order st) (cableAt i);
-    corners = cornersOf (lineCourse st i);
-  }
-
-  pub route-at : (i : ℕ) → i < length (st .cables) → routeAt (drawing st) i ≡ routeOf i
-  unfolding routeAt drawing drawingBy drawingIn courseOf
-  route-at i h = getD-tabulate (length (st .cables)) _ i noRoute h
-
-  pub first-at : (i : ℕ) → i < length (st .cables) → routeAt (drawing st) i .first ≡ lowerPart (order st) (cableAt i)
-  first-at i h = ap (λ (r : Route). r .first) (route-at i h)
-
-  pub last-at : (i : ℕ) → i < length (st .cables) → routeAt (drawing st) i .last ≡ upperPart (order st) (cableAt i)
-  last-at i h = ap (λ (r : Route). r .last) (route-at i h)
-
-  pub corners-at : (i : ℕ) → i < length (st .cables) → routeAt (drawing st) i .corners ≡ cornersOf (lineCourse st i)
-  corners-at i h = ap (λ (r : Route). r .corners) (route-at i h)
-
-  pub first-rank : (i : ℕ) → i < length (st .cables) → rankIn (order st) (routeAt (drawing st) i .first) ≡ lowerOf st i
-  unfolding lowerRank
-  first-rank i h = ap (rankIn (order st)) (first-at i h) ∙ lowerPart-rank (order st) (cableAt i)
-
-  pub last-rank : (i : ℕ) → i < length (st .cables) → rankIn (order st) (routeAt (drawing st) i .last) ≡ upperOf st i
-  unfolding upperRank
-  last-rank i h = ap (rankIn (order st)) (last-at i h) ∙ upperPart-rank (order st) (cableAt i)
+  pub is-renumbered : drawing st ≡ renumbered (order st) (layout (graphOf st))
+  unfolding drawing drawingBy graphOf
+  is-renumbered = refl
 
   module _ (S : Sound st) where
-    pub first-inside : (i : ℕ) → i < length (st .cables) → routeAt (drawing st) i .first < st .parts
-    first-inside i h = let w = S .orderable .within i h in omega (arith, first-at i h, parts-inside (order st) (cableAt i) (st .parts) (w .0) (w .1) .0)
+    two : 2 ≤ graphOf st .parts
+    two = omega (arith, graph-parts st, S .three)
 
-    pub last-inside : (i : ℕ) → i < length (st .cables) → routeAt (drawing st) i .last < st .parts
-    last-inside i h = let w = S .orderable .within i h in omega (arith, last-at i h, parts-inside (order st) (cableAt i) (st .parts) (w .0) (w .1) .1)
+    most : graphOf st .parts ≤ 256
+    most = omega (arith, graph-parts st, S .most)
 
-    first-spot : (i : ℕ) → i < length (st .cables) → spotAt (drawing st) (routeAt (drawing st) i .first) ≡ rankSpot st (lowerOf st i)
-    first-spot i h = part-spot (routeAt (drawing st) i .first) (first-inside i h) ∙ ap (rankSpot st) (first-rank i h)
+    O : StOrdering st (order st)
+    O = order-ordering st (S .orderable)
 
-    last-spot : (i : ℕ) → i < length (st .cables) → spotAt (drawing st) (routeAt (drawing st) i .last) ≡ rankSpot st (upperOf st i)
-    last-spot i h = part-spot (routeAt (drawing st) i .last) (last-inside i h) ∙ ap (rankSpot st) (last-rank i h)
+    -- the order names each rank
+    pub names : Names (length (layout (graphOf st) .parts)) (order st)
+    unfolding rankIn
+    names = subst (λ (n : ℕ). Names n (order st)) (sym (laid.parts-count (graphOf st) ∙ graph-parts st)) (record {
+      inside = rank-below st (S .orderable);
+      back = part-of-rank st (S .orderable);
+      named = O .inside;
+      place = rank-of-part st (S .orderable);
+    })
 
-    -- the points on the sheet are those of the layout
-    pub points-at : (i : ℕ) → i < length (st .cables) → linePoints st i ≡ pointsAt (drawing st) i
-    unfolding pointsAt routePoints cornersOf inner point
-    points-at i h =
-        let M = laidOf st S .meets in
-        sym (first-between-last (linePoints st i) (spotAt (drawing st) (routeAt (drawing st) i .first)) (spotAt (drawing st) (routeAt (drawing st) i .last)) origin
-        (M .two i h) (M .starts i h ∙ sym (first-spot i h)) (λ k e. M .ends i k h e ∙ sym (last-spot i h)))
-        ∙ ap (λ (l : List Spot). spotAt (drawing st) (routeAt (drawing st) i .first) ∷ (l ++ spotAt (drawing st) (routeAt (drawing st) i .last) ∷ [])) (sym (corners-at i h))
+    pub meets : Meets (drawing st)
+    meets = subst Meets (sym is-renumbered) (meets-renumbered (order st) (layout (graphOf st)) names (laid.meets (graphOf st) (S .ranked)))
 
-    pub drawing-meets : Meets st (drawing st)
-    drawing-meets =
-        renamed (st .parts) (length (st .cables)) (rankSpot st) (lowerOf st) (upperOf st) (linePoints st)
-        (rankIn (order st)) (spotAt (drawing st)) (λ i. routeAt (drawing st) i .first) (λ i. routeAt (drawing st) i .last) (pointsAt (drawing st))
-        (record {
-          inside = rank-below st (S .orderable);
-          one = rank-one st (S .orderable);
-          spots = part-spot;
-          first-inside = first-inside;
-          last-inside = last-inside;
-          first-rank = first-rank;
-          last-rank = last-rank;
-          same = points-at;
-        })
-        (laidOf st S .meets)
+    pub crossings-are : crossings (layout (graphOf st)) ≡ crossings (drawing st)
+    crossings-are = sym (ap crossings is-renumbered ∙ crossings-renumbered (order st) (layout (graphOf st)) names (laid.meets (graphOf st) (S .ranked)))
+
+    pub length-is : length (sheetWords (layout (graphOf st))) ≡ length (sheetWords (drawing st))
+    length-is = sym (ap (λ (d : Drawing). length (sheetWords d)) is-renumbered ∙ length-renumbered (order st) (layout (graphOf st)))
+
+    -- the ends that a reader takes are those of the layout, under their names
+    ends-at :
+        (i : ℕ) → i < length (st .cables)
+        → getD (endsOf st) i noEnds ≡ getD (map (named (order st)) (tabulate (size (graphOf st)) (laid.endsOf (graphOf st)))) i noEnds
+    unfolding endsBy
+    ends-at i h =
+        let g : i < size (graphOf st) = omega (arith, graph-size st) in
+        let l : List Ends = tabulate (size (graphOf st)) (laid.endsOf (graphOf st)) in
+        let e : getD (endsOf st) i noEnds ≡ endsBy (order st) (getD (st .cables) i noCable) = getD-map (endsBy (order st)) (st .cables) i noCable noEnds h in
+        let f : getD (map (named (order st)) l) i noEnds ≡ named (order st) (getD l i noEnds) = getD-map (named (order st)) l i noEnds noEnds (omega (arith, length-tabulate (size (graphOf st)) (laid.endsOf (graphOf st)))) in
+        let q : getD l i noEnds ≡ laid.endsOf (graphOf st) i = getD-tabulate (size (graphOf st)) (laid.endsOf (graphOf st)) i noEnds g in
+        e ∙ ends-path (sym (lower-part st (S .orderable) i h)) (sym (upper-part st (S .orderable) i h)) ∙ sym (f ∙ ap (named (order st)) q)
+      where
+        ends-path : {a b c d : ℕ} → a ≡ c → b ≡ d → _≡_ {A = Ends} (record { first = a; last = b }) (record { first = c; last = d })
+        ends-path e f = λ i. record { first = e i; last = f i }
+
+    ends-are : endsOf st ≡ map (named (order st)) (tabulate (size (graphOf st)) (laid.endsOf (graphOf st)))
+    ends-are =
+        let l : List Ends = tabulate (size (graphOf st)) (laid.endsOf (graphOf st)) in
+        let e : length (endsOf st) ≡ length (st .cables) = length-map (st .cables) (endsBy (order st)) in
+        ext-getD noEnds (endsOf st) (map (named (order st)) l)
+        (e ∙ sym (graph-size st) ∙ sym (length-tabulate (size (graphOf st)) (laid.endsOf (graphOf st))) ∙ sym (length-map l (named (order st))))
+        (λ i h. ends-at i (omega (arith, e)))
+
+    pub fits : DrawingFits (st .parts) (endsOf st) (drawing st)
+    fits =
+        subst (λ (d : Drawing). DrawingFits (st .parts) (endsOf st) d) (sym is-renumbered)
+        (subst (λ (l : List Ends). DrawingFits (st .parts) l (renumbered (order st) (layout (graphOf st)))) (sym ends-are)
+        (subst (λ (n : ℕ). DrawingFits n (map (named (order st)) (tabulate (size (graphOf st)) (laid.endsOf (graphOf st)))) (renumbered (order st) (layout (graphOf st)))) (graph-parts st)
+        (fits-renumbered (order st) (layout (graphOf st)) names (graphOf st .parts) _ (laid.fits (graphOf st) (S .ranked) two most))))
+
+    -- what is read off the sheet is the drawing
+    pub reads : readBy (order st) st (sheetWords (drawing st)) ≡ drawing st
+    unfolding readBy
+    reads = read-back (st .parts) (endsOf st) (drawing st) fits
+
+    -- the layout's own facts, as the laws of other numbers take them
+    ranks : List Ends
+    ranks = tabulate (size (graphOf st)) (laid.endsOf (graphOf st))
+
+    ranks-all : length ranks ≡ size (graphOf st)
+    unfolding ranks
+    ranks-all = laid.ends-length (graphOf st) (S .ranked) two most
+
+    few : length ranks ≤ 65536
+    few = omega (arith, ranks-all, laid.few-lines (graphOf st) (S .ranked) two most)
+
+    -- 'The sheet has .. 2m - 2n + 2 + d + e corners and 3m - n + 3 + d + e words.'
+    pub corner-words :
+        count isCorner (sheetWords (drawing st)) + 2 * st .parts ≡ 2 * length (st .cables) + 2 + bottomRows (graphOf st) + topRows (graphOf st)
+    unfolding ranks
+    corner-words =
+        let G : StGraph = graphOf st in
+        omega (
+          arith,
+          ap (λ (d : Drawing). count isCorner (sheetWords d)) is-renumbered
+              ∙ corner-words-renumbered (order st) (layout G) names (laid.meets G (S .ranked)) (G .parts) ranks (laid.fits G (S .ranked) two most) few,
+          laid.corner-words G (S .ranked) two most,
+          graph-parts st,
+          graph-size st,
+        )
+
+    pub all-words : length (sheetWords (drawing st)) + st .parts ≡ 3 * length (st .cables) + 3 + bottomRows (graphOf st) + topRows (graphOf st)
+    all-words = omega (arith, length-is, laid.words-count (graphOf st) (S .ranked) two, graph-parts st, graph-size st)
+
+    pub sizes : Sizes (st .parts) (length (st .cables)) (drawing st) (sheetWords (drawing st))
+    unfolding ranks
+    sizes =
+        let G : StGraph = graphOf st in
+        let R : Ranked G = S .ranked in
+        subst (λ (d : Drawing). Sizes (st .parts) (length (st .cables)) d (sheetWords d)) (sym is-renumbered)
+        (subst (λ (m : ℕ). Sizes (st .parts) m (renumbered (order st) (layout G)) (sheetWords (renumbered (order st) (layout G)))) (ranks-all ∙ graph-size st)
+        (subst (λ (n : ℕ). Sizes n (length ranks) (renumbered (order st) (layout G)) (sheetWords (renumbered (order st) (layout G)))) (graph-parts st)
+        (sizes-renumbered (order st) (layout G) names (laid.meets G R) (G .parts) ranks (laid.fits G R two most) few
+        (subst (λ (m : ℕ). Sizes (G .parts) m (layout G) (sheetWords (layout G))) (sym ranks-all) (laid.sizes G R two most)))))
+
+    -- four cables at a part at most, and 256 parts
+    pub words-most : length (sheetWords (drawing st)) ≤ 1285
+    words-most =
+        omega (arith, all-words, cables-le (graphOf st) (S .ranked), bottomRows-le (graphOf st) (S .ranked), topRows-le (graphOf st) (S .ranked), graph-parts st, graph-size st, S .most)

@@ -1,19 +1,9 @@
--- Document 01's table, and the demands proved of the definitions: a sheet reads back as its drawing (ReadBack), the drawing has the meetings (Drawn) and
--- sizes (DrawnSizes) of its layout, its rows are the order (Rows); so demands 2 and 3 hold of the words (Demand3). Then the code: its slices hold the
--- layout (PlotLines, CourseFill, PlotLayout), which gives the sheet's words (PlotWords) and crossings (CrossingPairs), and so the answer (Answers).
-pub mod ReadBack
-pub mod WordCounts
-pub mod Renaming
-pub mod Laid
+-- Document 01's table, and the demands proved of the definitions: the drawing of a station has the meetings and sizes of its layout (Drawn), its rows
+-- are the order (Rows), so that demands 2 and 3 hold of its words (Demand3); what the stages' values stand for (Stages); what makes an answer right (Answers).
 pub mod Drawn
-pub mod DrawnSizes
 pub mod Rows
 pub mod Demand3
 pub mod Table
 pub mod Triangle
-pub mod CrossingPairs
-pub mod PlotLines
-pub mod CourseFill
-pub mod PlotLayout
-pub mod PlotWords
+pub mod Stages
 pub mod Answers

@@ -6,23 +6,25 @@ use mathlib.Core.List.{List, [], _∷_, _++_, map}
 use lib.ListN.{length, getD}
 use lib.Dec.{eqb}
 use Rattle.lists.specs.Search.{seek}
-use Rattle.lists.specs.Select.{upFrom, range, tabulate, member, any, filter, count, without, indexOf, insertBy, sortBy}
+use Rattle.lists.specs.Select.{upFrom, range, tabulate, member, any, filter, count, without, lastly, indexOf, insertBy, sortBy}
 use Rattle.words.specs.Words.{kindOf, corner}
 use Rattle.station.specs.Station.{stationOf, cableOf, joins, degree}
 use Rattle.station.specs.Checks.{orElse, atWhen, check1, kindAt, misplaced, check2, check3, check4, outside, check5, check6, sameParts, repeated, check7, check8, checked}
 use Rattle.order.specs.Reach.{neighbours, endsAt, walk, unreached, null, connected, check9, check10}
 use Rattle.order.specs.Verdict.{verdict10}
 use Rattle.order.specs.Order.{candidate, firstOr, extend, order, rankIn}
-use Rattle.order.specs.Ends.{lowerRank, upperRank, lowerPart, upperPart}
-use Rattle.layout.specs.Ranked.{linesAt}
-use Rattle.layout.specs.Columns.{takenPlace, newLeft, newRight, newLast, moved, outgoing, incoming, taken, columnAt, step, columns}
-use Rattle.layout.specs.Points.{Spot, sameSpot, turns, dropRepeats, pointsOf, inner, cornersOf, bottomRows, topRows, row, isBottom, isTop, partSpot, course}
-use Rattle.layout.specs.Lines.{point}
-use Rattle.layout.specs.Crossing.{between, meetingSpot, runsCross, crossesOver, linesCross}
-use Rattle.hookup.specs.Drawing.{Drawing, spotAt, routePoints, drawingIn, drawingBy, drawing, shareEnd, crossPair, crossingsOf, crossings}
-use Rattle.hookup.specs.Sheet.{partSpotWord, cornerSpotWord, routeWords, routesWords, sheetWords}
+use Rattle.order.specs.Ends.{lowerRank, upperRank, lowerPart, upperPart, rankedBy}
+use Rattle.order.specs.Graph.{linesAt}
+use Rattle.layout.specs.Columns.{takenPlace, newLeft, newRight, newLast, moved, bottomLine, topLine, outgoing, incoming, taken, columnAt, step, columns}
+use Rattle.drawing.specs.Spots.{Spot, sameSpot}
+use Rattle.layout.specs.Points.{turns, dropRepeats, pointsOf, inner, cornersOf, bottomRows, topRows, row, partSpot, course}
+use Rattle.layout.specs.Layout.{drawnIn, layout}
+use Rattle.drawing.specs.Lines.{point}
+use Rattle.drawing.specs.Crossing.{between, meetingSpot, runsCross, crossesOver, linesCross}
+use Rattle.drawing.specs.Drawing.{Drawing, spotOf, routePoints, routeAt, shareEnd, crossPair, crossingsOf, crossings, renumbered}
+use Rattle.hookup.specs.Drawing.{drawingBy, drawing}
+use Rattle.drawing.specs.Sheet.{partSpotWord, cornerSpotWord, routeWords, routesWords, headSection, partsSection, cablesSection, sheetWords}
 use Rattle.hookup.specs.Outcome.{Outcome, drawn, sentBack, fitted, orDrawn, outcome}
-use Rattle.hookup.specs.Demand.{routeAt}
 
 abbrev at : ℕ → ℕ → Spot
 at x y = record { x = x; y = y }
@@ -96,7 +98,7 @@ pub record Table : Type 0 where
   d-line-3 : routeAt (drawingOfList stationD) 3 .corners ≡ at 4 0 ∷ at 6 0 ∷ at 6 6 ∷ at 2 6 ∷ []
 
 pub table : Table
-unfolding seek upFrom range tabulate member any filter count without indexOf insertBy sortBy stationOf cableOf joins degree orElse atWhen check1 kindAt misplaced check2 check3 check4 outside check5 check6 sameParts repeated check7 check8 checked neighbours endsAt walk unreached null connected check9 check10 verdict10 candidate firstOr extend order rankIn lowerRank upperRank lowerPart upperPart linesAt takenPlace newLeft newRight newLast moved outgoing incoming taken columnAt step columns sameSpot turns dropRepeats pointsOf inner cornersOf bottomRows topRows row isBottom isTop partSpot course point between meetingSpot runsCross crossesOver linesCross spotAt routePoints drawingIn drawingBy drawing shareEnd crossPair crossingsOf crossings partSpotWord cornerSpotWord routeWords routesWords sheetWords fitted orDrawn outcome routeAt
+unfolding seek upFrom range tabulate member any filter count without lastly indexOf insertBy sortBy stationOf cableOf joins degree orElse atWhen check1 kindAt misplaced check2 check3 check4 outside check5 check6 sameParts repeated check7 check8 checked neighbours endsAt walk unreached null connected check9 check10 verdict10 candidate firstOr extend order rankIn lowerRank upperRank lowerPart upperPart rankedBy linesAt takenPlace newLeft newRight newLast moved bottomLine topLine outgoing incoming taken columnAt step columns sameSpot turns dropRepeats pointsOf inner cornersOf bottomRows topRows row partSpot course point between meetingSpot runsCross crossesOver linesCross spotOf routePoints drawnIn layout renumbered drawingBy drawing shareEnd crossPair crossingsOf crossings partSpotWord cornerSpotWord routeWords routesWords headSection partsSection cablesSection sheetWords fitted orDrawn outcome routeAt
 table = record {
   refusal-1 = refl;
   refusal-2 = refl;

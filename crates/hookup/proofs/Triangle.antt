@@ -3,18 +3,21 @@ use Prim.Native.Nat.{ℕ}
 use mathlib.Core.Path.{_≡_, refl, subst}
 use mathlib.Core.List.{List, [], _∷_}
 use Rattle.lists.specs.Search.{seek}
-use Rattle.lists.specs.Select.{upFrom, range, tabulate, member, any, filter, count, without, indexOf, insertBy, sortBy}
+use Rattle.lists.specs.Select.{upFrom, range, tabulate, member, any, filter, count, without, lastly, indexOf, insertBy, sortBy}
 use Rattle.station.specs.Station.{stationOf, cableOf, joins, degree}
 use Rattle.station.specs.Checks.{orElse, atWhen, check1, kindAt, misplaced, check2, check3, check4, outside, check5, check6, sameParts, repeated, check7, check8, checked}
 use Rattle.order.specs.Reach.{neighbours, endsAt, walk, unreached, null, connected, check9, check10}
 use Rattle.order.specs.Verdict.{verdict10}
 use Rattle.order.specs.Order.{candidate, firstOr, extend, order, rankIn}
-use Rattle.order.specs.Ends.{lowerRank, upperRank, lowerPart, upperPart}
-use Rattle.layout.specs.Ranked.{linesAt}
-use Rattle.layout.specs.Columns.{takenPlace, newLeft, newRight, newLast, moved, outgoing, incoming, taken, columnAt, step, columns}
-use Rattle.layout.specs.Points.{sameSpot, turns, dropRepeats, pointsOf, inner, cornersOf, bottomRows, topRows, row, isBottom, isTop, partSpot, course}
-use Rattle.hookup.specs.Drawing.{drawingIn, drawingBy, drawing}
-use Rattle.hookup.specs.Sheet.{partSpotWord, cornerSpotWord, routeWords, routesWords, sheetWords}
+use Rattle.order.specs.Ends.{lowerRank, upperRank, lowerPart, upperPart, rankedBy}
+use Rattle.order.specs.Graph.{linesAt}
+use Rattle.layout.specs.Columns.{takenPlace, newLeft, newRight, newLast, moved, bottomLine, topLine, outgoing, incoming, taken, columnAt, step, columns}
+use Rattle.drawing.specs.Spots.{sameSpot}
+use Rattle.layout.specs.Points.{turns, dropRepeats, pointsOf, inner, cornersOf, bottomRows, topRows, row, partSpot, course}
+use Rattle.layout.specs.Layout.{drawnIn, layout}
+use Rattle.drawing.specs.Drawing.{spotOf, renumbered}
+use Rattle.hookup.specs.Drawing.{drawingBy, drawing}
+use Rattle.drawing.specs.Sheet.{partSpotWord, cornerSpotWord, routeWords, routesWords, headSection, partsSection, cablesSection, sheetWords}
 use Rattle.station.specs.Checks.{passed}
 use Rattle.hookup.specs.Demand.{Demand3, Ordered}
 use Rattle.hookup.proofs.Table.{triangle}
@@ -28,7 +31,7 @@ unfolding seek upFrom range member filter count without stationOf cableOf joins 
 triangle-passes = refl
 
 pub triangle-words : sheetWords (drawing (stationOf triangle)) ≡ nine
-unfolding upFrom range tabulate member any filter without indexOf insertBy sortBy stationOf cableOf neighbours endsAt walk unreached null connected candidate firstOr extend order rankIn lowerRank upperRank lowerPart upperPart linesAt takenPlace newLeft newRight newLast moved outgoing incoming taken columnAt step columns sameSpot turns dropRepeats pointsOf inner cornersOf bottomRows topRows row isBottom isTop partSpot course drawingIn drawingBy drawing partSpotWord cornerSpotWord routeWords routesWords sheetWords
+unfolding upFrom range tabulate member any filter without lastly indexOf insertBy sortBy stationOf cableOf neighbours endsAt walk unreached null connected candidate firstOr extend order rankIn lowerRank upperRank lowerPart upperPart rankedBy linesAt takenPlace newLeft newRight newLast moved bottomLine topLine outgoing incoming taken columnAt step columns sameSpot turns dropRepeats pointsOf inner cornersOf bottomRows topRows row partSpot course spotOf drawnIn layout renumbered drawingBy drawing partSpotWord cornerSpotWord routeWords routesWords headSection partsSection cablesSection sheetWords
 triangle-words = refl
 
 pub triangle-demand3 : Demand3 triangle nine

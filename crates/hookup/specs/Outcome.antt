@@ -7,8 +7,9 @@ use lib.Dec.{ltb}
 use Rattle.station.specs.Station.{stationOf}
 use Rattle.station.specs.Checks.{Verdict, passed, refused}
 use Rattle.order.specs.Verdict.{verdict10}
-use Rattle.hookup.specs.Drawing.{Drawing, drawing, crossings}
-use Rattle.hookup.specs.Sheet.{sheetWords}
+use Rattle.drawing.specs.Drawing.{Drawing, crossings}
+use Rattle.drawing.specs.Sheet.{sheetWords}
+use Rattle.hookup.specs.Drawing.{drawing}
 
 -- 'A successful call returns the words written and the crossings'; a refusal 'returns its number and one place'.
 pub data Outcome : Type 0 where

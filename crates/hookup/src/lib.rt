@@ -1,16 +1,41 @@
 // The call that draws a hookup sheet.
+use layout::lay_out;
 use lists::Found;
+use order::rank_cables;
+use order::rank_parts;
 use station::Verdict8;
-
-mod plot;
-
+use writer::crossings::count_crossings;
+use writer::sheet::count_words;
+use writer::sheet::put_sheet;
 ghost use mathlib.Core.Path.{_≡_};
+ghost use Rattle.station.specs.Checks.{passed};
+ghost use Rattle.order.specs.Verdict.{verdict10};
 ghost use Rattle.hookup.specs.Answer.{Drew};
 
 // 'A successful call returns the words written and the crossings'; a refusal 'returns its number and one place, and writes no word'.
 pub enum Answer {
     Sheet { words: usize, crossings: usize },
     Refused { check: u8, place: usize },
+}
+
+// A list that passed checks 1 to 10 is ranked, laid out and measured; an output too short for it is refused (11) before a word is written.
+fn draw_station(list: &[u32], sheet: &mut [u32]) -> Answer
+    requires { ⌜ verdict10 (now list) ≡ passed ⌝ }
+    ensures { λ r. ⌜ Drew (now (list .entry)) (now (sheet .entry)) (now (sheet .exit)) r ⌝ }
+{
+    let ranking = rank_parts(list);
+    let layout = lay_out(rank_cables(list, ranking));
+    let words = count_words(layout);
+    if sheet.len() < words {
+        return Answer::Refused {
+            check: 11,
+            place: words,
+        };
+    }
+    Answer::Sheet {
+        words: put_sheet(sheet, ranking, layout),
+        crossings: count_crossings(layout),
+    }
 }
 
 // The sheet of a list, written to the front of the output, or the first check that applies.
@@ -26,5 +51,5 @@ pub fn draw(list: &[u32], sheet: &mut [u32]) -> Answer
     if let Found::At(place) = order::check10(list) {
         return Answer::Refused { check: 10, place };
     }
-    plot::draw_station(list, sheet)
+    draw_station(list, sheet)
 }

@@ -7,7 +7,7 @@ use mathlib.Core.Bool.{Bool, true, false, cond}
 use lib.ListN.{length, List·getD-eq-default}
 use lib.Dec.{eqb, ltb}
 use Rattle.lists.proofs.Tests.{oneIf-le}
-use Rattle.layout.specs.Ranked.{linesAt}
+use Rattle.order.specs.Graph.{StGraph, size, lower, upper, linesAt}
 use Rattle.layout.specs.Columns.{newLeft, newRight, newLast, moved, columnAt, columns}
 use Rattle.layout.proofs.Step.{cable, part, width, outs, ins, outPlace, inAt, took, lefts, rights, cable-start, width-start, cable-opened, cable-kept, length-cables, length-parts, part-kept, part-opened, width-suc, outPlace-below, took-none, took-comes, length-outgoing}
 
@@ -20,76 +20,76 @@ moved-le p a b x = go (ltb x p) (eqb x p)
     go false true = omega arith
     go false false = omega arith
 
-column-le : (m : ℕ) (lower upper : ℕ → ℕ) (p last j b : ℕ) → p + j ≤ b → last ≤ b → columnAt m lower upper p last j ≤ b
+column-le : (p last j b : ℕ) → p + j ≤ b → last ≤ b → columnAt p last j ≤ b
 unfolding columnAt
-column-le m lower upper p last j b h g = go (eqb j 3)
+column-le p last j b h g = go (eqb j 3)
   where
     go : (u : Bool) → cond u last (p + j) ≤ b
     go true = g
     go false = h
 
-module _ (m : ℕ) (lower upper : ℕ → ℕ) where
-  lefts-le : (k : ℕ) → lefts m lower upper k ≤ 1
+module _ (G : StGraph) where
+  pub lefts-le : (k : ℕ) → lefts G k ≤ 1
   unfolding lefts
-  lefts-le k = oneIf-le (newLeft (ins m lower upper k) (outs m lower upper k))
+  lefts-le k = oneIf-le (newLeft (ins G k) (outs G k))
 
-  rights-le : (k : ℕ) → rights m lower upper k ≤ 1
+  pub rights-le : (k : ℕ) → rights G k ≤ 1
   unfolding rights
-  rights-le k = oneIf-le (newRight (ins m lower upper k) (outs m lower upper k))
+  rights-le k = oneIf-le (newRight (ins G k) (outs G k))
 
-  beyond : (k i : ℕ) → m ≤ i → cable m lower upper k i ≡ 0
+  beyond : (k i : ℕ) → size G ≤ i → cable G k i ≡ 0
   unfolding cable
-  beyond k i h = List·getD-eq-default (columns m lower upper k .cables) 0 (omega (arith, length-cables m lower upper k))
+  beyond k i h = List·getD-eq-default (columns G k .cables) 0 (omega (arith, length-cables G k))
 
-  parts-beyond : (k j : ℕ) → k ≤ j → part m lower upper k j ≡ 0
+  parts-beyond : (k j : ℕ) → k ≤ j → part G k j ≡ 0
   unfolding part
-  parts-beyond k j h = List·getD-eq-default (columns m lower upper k .parts) 0 (omega (arith, length-parts m lower upper k))
+  parts-beyond k j h = List·getD-eq-default (columns G k .parts) 0 (omega (arith, length-parts G k))
 
   pub record Small (k : ℕ) : Type 0 where
-    pub cables : (i : ℕ) → cable m lower upper k i ≤ 4 * k
-    pub parts : (j : ℕ) → part m lower upper k j ≤ 4 * k
-    pub count : width m lower upper k ≤ 4 * k + 1
+    pub cables : (i : ℕ) → cable G k i ≤ 4 * k
+    pub parts : (j : ℕ) → part G k j ≤ 4 * k
+    pub count : width G k ≤ 4 * k + 1
 
-  pub took-le : (k : ℕ) → Small k → took m lower upper k ≤ 4 * k
-  took-le k s = go (decLt 0 (ins m lower upper k))
+  pub took-le : (k : ℕ) → Small k → took G k ≤ 4 * k
+  took-le k s = go (decLt 0 (ins G k))
     where
-      go : Dec (0 < ins m lower upper k) → took m lower upper k ≤ 4 * k
-      go (yes h) = omega (arith, took-comes m lower upper k h, s .cables (inAt m lower upper k ((ins m lower upper k - 1) / 2)))
-      go (no h) = omega (arith, took-none m lower upper k (omega arith))
+      go : Dec (0 < ins G k) → took G k ≤ 4 * k
+      go (yes h) = omega (arith, took-comes G k h, s .cables (inAt G k ((ins G k - 1) / 2)))
+      go (no h) = omega (arith, took-none G k (omega arith))
 
   start : Small 0
   unfolding part columns
-  start = record { cables = λ i. cables-start i (decLt i m); parts = λ j. omega arith; count = omega (arith, width-start m lower upper) }
+  start = record { cables = λ i. cables-start i (decLt i (size G)); parts = λ j. omega arith; count = omega (arith, width-start G) }
     where
-      cables-start : (i : ℕ) → Dec (i < m) → cable m lower upper 0 i ≤ 4 * 0
-      cables-start i (yes h) = omega (arith, cable-start m lower upper i h)
+      cables-start : (i : ℕ) → Dec (i < size G) → cable G 0 i ≤ 4 * 0
+      cables-start i (yes h) = omega (arith, cable-start G i h)
       cables-start i (no h) = omega (arith, beyond 0 i (omega arith))
 
-  module _ (four : (k : ℕ) → length (linesAt m lower k) + length (linesAt m upper k) ≤ 4) where
-    outs-le : (k : ℕ) → outs m lower upper k ≤ 4
+  module _ (four : (k : ℕ) → length (linesAt (size G) (lower G) k) + length (linesAt (size G) (upper G) k) ≤ 4) where
+    outs-le : (k : ℕ) → outs G k ≤ 4
     unfolding outs
-    outs-le k = omega (arith, length-outgoing m lower upper k, four k)
+    outs-le k = omega (arith, length-outgoing G k, four k)
 
     next : (k : ℕ) → Small k → Small (suc k)
     next k s = record {
-      cables = λ i. cables-next i (decLt i m) (ℕ-discrete (lower i) k);
+      cables = λ i. cables-next i (decLt i (size G)) (ℕ-discrete (lower G i) k);
       parts = λ j. parts-next j (decLt j k) (ℕ-discrete j k);
-      count = omega (arith, width-suc m lower upper k, lefts-le k, rights-le k, oneIf-le (newLast (outs m lower upper k)), s .count);
+      count = omega (arith, width-suc G k, lefts-le k, rights-le k, oneIf-le (newLast (outs G k)), s .count);
     }
       where
-        cables-next : (i : ℕ) → Dec (i < m) → Dec (lower i ≡ k) → cable m lower upper (suc k) i ≤ 4 * suc k
+        cables-next : (i : ℕ) → Dec (i < size G) → Dec (lower G i ≡ k) → cable G (suc k) i ≤ 4 * suc k
         cables-next i (no h) d = omega (arith, beyond (suc k) i (omega arith))
         cables-next i (yes h) (no d) =
-            omega (arith, cable-kept m lower upper k i h d, moved-le (took m lower upper k) (lefts m lower upper k) (rights m lower upper k) (cable m lower upper k i), lefts-le k, rights-le k, s .cables i)
+            omega (arith, cable-kept G k i h d, moved-le (took G k) (lefts G k) (rights G k) (cable G k i), lefts-le k, rights-le k, s .cables i)
         cables-next i (yes h) (yes d) =
-            let c = column-le m lower upper (took m lower upper k) (width m lower upper k + lefts m lower upper k + rights m lower upper k) (outPlace m lower upper k i) (4 * suc k)
-            (omega (arith, took-le k s, outPlace-below m lower upper k i h d, outs-le k)) (omega (arith, lefts-le k, rights-le k, s .count)) in
-            omega (arith, cable-opened m lower upper k i h d, c)
+            let c = column-le (took G k) (width G k + lefts G k + rights G k) (outPlace G k i) (4 * suc k)
+            (omega (arith, took-le k s, outPlace-below G k i h d, outs-le k)) (omega (arith, lefts-le k, rights-le k, s .count)) in
+            omega (arith, cable-opened G k i h d, c)
 
-        parts-next : (j : ℕ) → Dec (j < k) → Dec (j ≡ k) → part m lower upper (suc k) j ≤ 4 * suc k
+        parts-next : (j : ℕ) → Dec (j < k) → Dec (j ≡ k) → part G (suc k) j ≤ 4 * suc k
         parts-next j (yes h) d =
-            omega (arith, part-kept m lower upper k j h, moved-le (took m lower upper k) (lefts m lower upper k) (rights m lower upper k) (part m lower upper k j), lefts-le k, rights-le k, s .parts j)
-        parts-next j (no h) (yes d) = omega (arith, ap (part m lower upper (suc k)) d, part-opened m lower upper k, took-le k s, lefts-le k)
+            omega (arith, part-kept G k j h, moved-le (took G k) (lefts G k) (rights G k) (part G k j), lefts-le k, rights-le k, s .parts j)
+        parts-next j (no h) (yes d) = omega (arith, ap (part G (suc k)) d, part-opened G k, took-le k s, lefts-le k)
         parts-next j (no h) (no d) = omega (arith, parts-beyond (suc k) j (omega arith))
 
     pub small : (k : ℕ) → Small k

@@ -1,131 +1,17 @@
--- The executable crossing test agrees with document 01's definition of a crossing on any two lists of points, and, on the lines of a layout, with
--- a test on five numbers: lane, lanes and columns. Assumes nothing.
-use Prim.Native.Nat.{ℕ, suc, _-_, _<_, min, max}
-use native.Mathlib.Omega.{arith}
-use mathlib.Core.Path.{_≡_, sym, ap}
-use mathlib.Core.Bool.{Bool, true, not, _&&_, _||_}
-use mathlib.Core.Logic.{_⊎_, inl, inr}
-use mathlib.Core.List.{List}
-use lib.ListN.{length}
-use lib.Dec.{eqb, leb, ltb}
-use borrow.Author.Tests.{eqb-true, eq-eqb, leb-true, le-leb, ltb-true, lt-ltb}
-use Rattle.lists.specs.Select.{any, range}
-use Rattle.lists.proofs.Bools.{and-e, and-i, or-e, or-left, or-right, not-e, not-i, same-test}
-use Rattle.lists.proofs.Any.{any-at-e, any-at-i, any-range-e, any-range-i}
-use Rattle.layout.specs.Points.{Spot, origin, Course, sameSpot, pointsOf}
-use Rattle.layout.specs.Lines.{point, IsRun, OnRun, OnLevel, OnUpright, Between, Level, Upright, NoPoint, CrossesOver, CrossingAt}
-use Rattle.layout.specs.Crossing.{over, between, meetingSpot, runsCross, crossesOver, linesCross}
+-- On the lines of a layout, the test whether two of them cross agrees with a test on five numbers: lane, lanes and columns. Assumes nothing.
+use Prim.Native.Nat.{ℕ, _<_, min, max}
+use mathlib.Core.Path.{_≡_, sym}
+use mathlib.Core.Bool.{Bool, true, _&&_, _||_}
+use lib.Dec.{ltb}
+use borrow.Author.Tests.{ltb-true, lt-ltb}
+use Rattle.lists.proofs.Bools.{and-e, and-i, same-test}
+use Rattle.order.specs.Graph.{StGraph, size, lower, upper}
+use Rattle.layout.specs.Points.{Course, pointsOf}
+use Rattle.drawing.specs.Crossing.{crossesOver, linesCross}
+use Rattle.drawing.proofs.Crossing.{crossesOver-e, crossesOver-i}
+use Rattle.layout.specs.Over.{over}
 use Rattle.layout.proofs.Facts.{Facts}
-use Rattle.layout.proofs.Segments.{spot-path, same-spot}
 use Rattle.layout.proofs.Meet.{Over, overSpot, over-crosses, courseAt, lineOf, proper, crosses-over}
-
-same-spot-e : (p q : Spot) → sameSpot p q ≡ true → p ≡ q
-unfolding sameSpot
-same-spot-e p q h =
-    let r = and-e (eqb (p .x) (q .x)) (eqb (p .y) (q .y)) h in
-    spot-path (eqb-true (p .x) (q .x) (r .0)) (eqb-true (p .y) (q .y) (r .1))
-
-between-e : (p q s : Spot) → between p q s ≡ true → Between p q s
-unfolding between
-between-e p q s h =
-    let a = leb (min (p .x) (q .x)) (s .x) in
-    let b = leb (s .x) (max (p .x) (q .x)) in
-    let c = leb (min (p .y) (q .y)) (s .y) in
-    let d = leb (s .y) (max (p .y) (q .y)) in
-    let r = and-e (a && b && c) d h in
-    let t = and-e (a && b) c (r .0) in
-    let u = and-e a b (t .0) in
-    record { left = leb-true _ _ (u .0); right = leb-true _ _ (u .1); below = leb-true _ _ (t .1); above = leb-true _ _ (r .1) }
-
-between-i : (p q s : Spot) → Between p q s → between p q s ≡ true
-unfolding between
-between-i p q s h =
-    and-i _ _ (and-i _ _ (and-i _ _ (le-leb _ _ (h .left)) (le-leb _ _ (h .right))) (le-leb _ _ (h .below))) (le-leb _ _ (h .above))
-
-no-point-e : (ps : List Spot) (s : Spot) → not (any (sameSpot s) ps) ≡ true → NoPoint ps s
-unfolding point
-no-point-e ps s h k l e =
-    not-e (any (sameSpot s) ps) h
-    (any-at-i (sameSpot s) origin ps k l (same-spot s (point ps k) (ap (λ (p : Spot). p .x) (sym e)) (ap (λ (p : Spot). p .y) (sym e))))
-
-no-point-i : (ps : List Spot) (s : Spot) → NoPoint ps s → not (any (sameSpot s) ps) ≡ true
-unfolding point
-no-point-i ps s N =
-    not-i (any (sameSpot s) ps) λ h.
-    let r = any-at-e (sameSpot s) origin ps h in
-    N (r .0) (r .1) (sym (same-spot-e s (point ps (r .0)) (r .2)))
-
--- a level run and an upright run meet in their one row and column
-meets-at : (ps qs : List Spot) (k l : ℕ) (s : Spot) → Level ps k → OnRun ps k s → Upright qs l → OnRun qs l s → s ≡ meetingSpot ps k qs l
-unfolding meetingSpot
-meets-at ps qs k l s f g u v = spot-path (omega (arith, v .left, v .right)) (omega (arith, g .below, g .above))
-
-module _ (ps qs : List Spot) where
-  runsCross-e :
-      (k l : ℕ) → IsRun ps k → IsRun qs l → runsCross ps k qs l ≡ true → CrossesOver ps qs (meetingSpot ps k qs l)
-  unfolding runsCross
-  runsCross-e k l g h r =
-      let s = meetingSpot ps k qs l in
-      let a = eqb (point ps k .y) (point ps (suc k) .y) in
-      let b = eqb (point qs l .x) (point qs (suc l) .x) in
-      let c = between (point ps k) (point ps (suc k)) s in
-      let d = between (point qs l) (point qs (suc l)) s in
-      let e = not (any (sameSpot s) ps) in
-      let f = not (any (sameSpot s) qs) in
-      let t = and-e (a && b && c && d && e) f r in
-      let u = and-e (a && b && c && d) e (t .0) in
-      let v = and-e (a && b && c) d (u .0) in
-      let w = and-e (a && b) c (v .0) in
-      let z = and-e a b (w .0) in
-      record {
-        level = (k, g, eqb-true _ _ (z .0), between-e _ _ s (w .1));
-        upright = (l, h, eqb-true _ _ (z .1), between-e _ _ s (v .1));
-        free-first = no-point-e ps s (u .1);
-        free-second = no-point-e qs s (t .1);
-      }
-
-  runsCross-i :
-      (k l : ℕ) (s : Spot) → Level ps k → OnRun ps k s → Upright qs l → OnRun qs l s → NoPoint ps s → NoPoint qs s
-      → s ≡ meetingSpot ps k qs l → runsCross ps k qs l ≡ true
-  unfolding runsCross
-  runsCross-i k l s f g u v N M e =
-      rw (← e)
-      (and-i _ _
-      (and-i _ _
-      (and-i _ _ (and-i _ _ (and-i _ _ (eq-eqb _ _ f) (eq-eqb _ _ u)) (between-i _ _ s g)) (between-i _ _ s v))
-      (no-point-i ps s N))
-      (no-point-i qs s M))
-
-  pub crossesOver-e : crossesOver ps qs ≡ true → (s : Spot) × CrossesOver ps qs s
-  unfolding crossesOver
-  crossesOver-e h =
-      let r = any-range-e (λ k. any (λ l. runsCross ps k qs l) (range (length qs - 1))) (length ps - 1) h in
-      let t = any-range-e (λ l. runsCross ps (r .0) qs l) (length qs - 1) (r .2) in
-      (meetingSpot ps (r .0) qs (t .0), runsCross-e (r .0) (t .0) (omega (arith, r .1)) (omega (arith, t .1)) (t .2))
-
-  pub crossesOver-i : (s : Spot) → CrossesOver ps qs s → crossesOver ps qs ≡ true
-  unfolding crossesOver
-  crossesOver-i s X = go (X .level) (X .upright)
-    where
-      go : OnLevel ps s → OnUpright qs s → crossesOver ps qs ≡ true
-      go (k, a, f, g) (l, b, u, v) =
-          any-range-i (λ i. any (λ j. runsCross ps i qs j) (range (length qs - 1))) (length ps - 1) k (omega arith)
-          (any-range-i (λ j. runsCross ps k qs j) (length qs - 1) l (omega arith)
-          (runsCross-i k l s f g u v (X .free-first) (X .free-second) (meets-at ps qs k l s f g u v)))
-
--- 'their lines cross where they have one', for any two lists of points
-pub linesCross-e : (ps qs : List Spot) → linesCross ps qs ≡ true → (s : Spot) × CrossingAt ps qs s
-unfolding linesCross
-linesCross-e ps qs h = go (or-e (crossesOver ps qs) (crossesOver qs ps) h)
-  where
-    go : (crossesOver ps qs ≡ true) ⊎ (crossesOver qs ps ≡ true) → (s : Spot) × CrossingAt ps qs s
-    go (inl e) = let r = crossesOver-e ps qs e in (r .0, inl (r .1))
-    go (inr e) = let r = crossesOver-e qs ps e in (r .0, inr (r .1))
-
-pub linesCross-i : (ps qs : List Spot) (s : Spot) → CrossingAt ps qs s → linesCross ps qs ≡ true
-unfolding linesCross
-linesCross-i ps qs s (inl X) = or-left (crossesOver ps qs) (crossesOver qs ps) (crossesOver-i ps qs s X)
-linesCross-i ps qs s (inr X) = or-right (crossesOver ps qs) (crossesOver qs ps) (crossesOver-i qs ps s X)
 
 over-e : (c d : Course) → over c d ≡ true → Over c d
 unfolding over
@@ -144,26 +30,26 @@ unfolding over
 over-i c d O =
     and-i _ _ (and-i _ _ (and-i _ _ (lt-ltb _ _ (O .low)) (lt-ltb _ _ (O .high))) (lt-ltb _ _ (O .left))) (lt-ltb _ _ (O .right))
 
-module _ (n m : ℕ) (lower upper x lo hi col row : ℕ → ℕ) (F : Facts n m lower upper x lo hi col row) where
+module _ (G : StGraph) (x lo hi col row : ℕ → ℕ) (F : Facts G x lo hi col row) where
   pub crossesOver-over :
-      (i j : ℕ) → i < m → j < m → (i ≡ j → ⊥)
-      → crossesOver (lineOf lower upper x lo hi col row i) (lineOf lower upper x lo hi col row j)
-      ≡ over (courseAt lower upper x lo hi col row i) (courseAt lower upper x lo hi col row j)
+      (i j : ℕ) → i < size G → j < size G → (i ≡ j → ⊥)
+      → crossesOver (lineOf G x lo hi col row i) (lineOf G x lo hi col row j)
+      ≡ over (courseAt G x lo hi col row i) (courseAt G x lo hi col row j)
   crossesOver-over i j g h f =
-      let c = courseAt lower upper x lo hi col row i in
-      let d = courseAt lower upper x lo hi col row j in
+      let c = courseAt G x lo hi col row i in
+      let d = courseAt G x lo hi col row j in
       same-test (crossesOver (pointsOf c) (pointsOf d)) (over c d)
       (λ e.
       let r = crossesOver-e (pointsOf c) (pointsOf d) e in
-      over-i c d (crosses-over lower upper x lo hi col row n m F i j g h f (r .0) (r .1) .0))
+      over-i c d (crosses-over G x lo hi col row F i j g h f (r .0) (r .1) .0))
       (λ e.
       crossesOver-i (pointsOf c) (pointsOf d) (overSpot c d)
-      (over-crosses c d (proper lower upper x lo hi col row n m F i g) (proper lower upper x lo hi col row n m F j h) (over-e c d e)))
+      (over-crosses c d (proper G x lo hi col row F i g) (proper G x lo hi col row F j h) (over-e c d e)))
 
   pub linesCross-over :
-      (i j : ℕ) → i < m → j < m → (i ≡ j → ⊥)
-      → linesCross (lineOf lower upper x lo hi col row i) (lineOf lower upper x lo hi col row j)
-      ≡ (over (courseAt lower upper x lo hi col row i) (courseAt lower upper x lo hi col row j)
-      || over (courseAt lower upper x lo hi col row j) (courseAt lower upper x lo hi col row i))
+      (i j : ℕ) → i < size G → j < size G → (i ≡ j → ⊥)
+      → linesCross (lineOf G x lo hi col row i) (lineOf G x lo hi col row j)
+      ≡ (over (courseAt G x lo hi col row i) (courseAt G x lo hi col row j)
+      || over (courseAt G x lo hi col row j) (courseAt G x lo hi col row i))
   unfolding linesCross
   linesCross-over i j g h f = rw (crossesOver-over i j g h f, crossesOver-over j i h g (λ e. f (sym e)))

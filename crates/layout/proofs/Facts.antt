@@ -4,31 +4,32 @@
 use Prim.Native.Nat.{ℕ, suc, _<_, _≤_}
 use mathlib.Core.Path.{_≡_}
 use mathlib.Core.Logic.{_⊎_}
+use Rattle.order.specs.Graph.{StGraph, size, lower, upper}
 
-pub record Facts (n m : ℕ) (lower upper x lo hi col row : ℕ → ℕ) : Type 0 where
-  pub rises : (i : ℕ) → i < m → lower i < upper i
-  pub inside : (i : ℕ) → i < m → upper i < n
-  pub rows : (j k : ℕ) → j < k → k < n → row j < row k
+pub record Facts (G : StGraph) (x lo hi col row : ℕ → ℕ) : Type 0 where
+  pub rises : (i : ℕ) → i < size G → lower G i < upper G i
+  pub inside : (i : ℕ) → i < size G → upper G i < G .parts
+  pub rows : (j k : ℕ) → j < k → k < G .parts → row j < row k
   -- a lane is its part's row, but for the bottom connection's, below row 0, and the top connection's, above row n - 1
-  pub lo-le : (i : ℕ) → i < m → lo i ≤ row (lower i)
-  pub hi-ge : (i : ℕ) → i < m → row (upper i) ≤ hi i
-  pub dip : (i : ℕ) → i < m → lo i < row (lower i) → lower i ≡ 0
-  pub climb : (i : ℕ) → i < m → row (upper i) < hi i → suc (upper i) ≡ n
-  pub one-dip : (i j : ℕ) → i < m → j < m → lo i < row (lower i) → lo j < row (lower j) → i ≡ j
-  pub one-climb : (i j : ℕ) → i < m → j < m → row (upper i) < hi i → row (upper j) < hi j → i ≡ j
+  pub lo-le : (i : ℕ) → i < size G → lo i ≤ row (lower G i)
+  pub hi-ge : (i : ℕ) → i < size G → row (upper G i) ≤ hi i
+  pub dip : (i : ℕ) → i < size G → lo i < row (lower G i) → lower G i ≡ 0
+  pub climb : (i : ℕ) → i < size G → row (upper G i) < hi i → suc (upper G i) ≡ G .parts
+  pub one-dip : (i j : ℕ) → i < size G → j < size G → lo i < row (lower G i) → lo j < row (lower G j) → i ≡ j
+  pub one-climb : (i j : ℕ) → i < size G → j < size G → row (upper G i) < hi i → row (upper G j) < hi j → i ≡ j
   -- cables whose lanes overlap have different columns
-  pub lanes : (i j : ℕ) → i < m → j < m → (i ≡ j → ⊥) → lo i < hi j → lo j < hi i → x i ≡ x j → ⊥
+  pub lanes : (i j : ℕ) → i < size G → j < size G → (i ≡ j → ⊥) → lo i < hi j → lo j < hi i → x i ≡ x j → ⊥
   -- a cable that passes a rank's row is not in its column
-  pub passes : (i k : ℕ) → i < m → k < n → lo i < row k → row k < hi i → x i ≡ col k → ⊥
+  pub passes : (i k : ℕ) → i < size G → k < G .parts → lo i < row k → row k < hi i → x i ≡ col k → ⊥
   -- two cables with a lane in a rank's row are not both left of it, nor both right of it
   pub left :
-      (i j k : ℕ) → i < m → j < m → k < n → (i ≡ j → ⊥) → (lo i ≡ row k) ⊎ (hi i ≡ row k) → (lo j ≡ row k) ⊎ (hi j ≡ row k)
+      (i j k : ℕ) → i < size G → j < size G → k < G .parts → (i ≡ j → ⊥) → (lo i ≡ row k) ⊎ (hi i ≡ row k) → (lo j ≡ row k) ⊎ (hi j ≡ row k)
       → x i < col k → x j < col k → ⊥
   pub right :
-      (i j k : ℕ) → i < m → j < m → k < n → (i ≡ j → ⊥) → (lo i ≡ row k) ⊎ (hi i ≡ row k) → (lo j ≡ row k) ⊎ (hi j ≡ row k)
+      (i j k : ℕ) → i < size G → j < size G → k < G .parts → (i ≡ j → ⊥) → (lo i ≡ row k) ⊎ (hi i ≡ row k) → (lo j ≡ row k) ⊎ (hi j ≡ row k)
       → col k < x i → col k < x j → ⊥
   -- between a rank and an outgoing cable of it no cable passes the rank's row
   pub free-left :
-      (i j k : ℕ) → i < m → j < m → k < n → (i ≡ j → ⊥) → lo i ≡ row k → lo j < row k → row k < hi j → x i < x j → x j < col k → ⊥
+      (i j k : ℕ) → i < size G → j < size G → k < G .parts → (i ≡ j → ⊥) → lo i ≡ row k → lo j < row k → row k < hi j → x i < x j → x j < col k → ⊥
   pub free-right :
-      (i j k : ℕ) → i < m → j < m → k < n → (i ≡ j → ⊥) → lo i ≡ row k → lo j < row k → row k < hi j → col k < x j → x j < x i → ⊥
+      (i j k : ℕ) → i < size G → j < size G → k < G .parts → (i ≡ j → ⊥) → lo i ≡ row k → lo j < row k → row k < hi j → col k < x j → x j < x i → ⊥

@@ -6,7 +6,7 @@ use native.Mathlib.Decide.{decLt, ℕ-discrete}
 use mathlib.Core.Path.{_≡_, sym, ap, _∙_}
 use mathlib.Core.Logic.{_⊎_, inl, inr}
 use borrow.Author.Tests.{eq-eqb, ne-eqb}
-use Rattle.layout.specs.Ranked.{Ranked}
+use Rattle.order.specs.Graph.{StGraph, size, lower, upper, Ranked}
 use Rattle.layout.specs.Columns.{moved, columnAt}
 use Rattle.lists.proofs.Increasing.{Increasing, increasing-one, increasing-less}
 use Rattle.layout.proofs.Moved.{moved-increasing, moved-outside, moved-from-left, moved-from-right}
@@ -14,40 +14,40 @@ use Rattle.layout.proofs.Ports.{Ports, ports, in-left, in-right}
 use Rattle.layout.proofs.Step.{cable-opened, cable-kept, part-kept, part-opened, width-start, length-outgoing, outPlace-below, outPlace-one, inPlace-below, inPlace-one, inAt-inPlace, inAt-comes, inAt-one, inAt-rises, took-none, took-comes}
 use Rattle.layout.proofs.Step as step
 
-module _ (m : ℕ) (lower upper : ℕ → ℕ) where
+module _ (G : StGraph) where
   -- the columns of cables and parts once k ranks stand, and what rank k adds, as `Step` has them
   abbrev cable : ℕ → ℕ → ℕ
-  cable = step.cable m lower upper
+  cable = step.cable G
 
   abbrev part : ℕ → ℕ → ℕ
-  part = step.part m lower upper
+  part = step.part G
 
   abbrev width : ℕ → ℕ
-  width = step.width m lower upper
+  width = step.width G
 
   abbrev outs : ℕ → ℕ
-  outs = step.outs m lower upper
+  outs = step.outs G
 
   abbrev ins : ℕ → ℕ
-  ins = step.ins m lower upper
+  ins = step.ins G
 
   abbrev outPlace : ℕ → ℕ → ℕ
-  outPlace = step.outPlace m lower upper
+  outPlace = step.outPlace G
 
   abbrev inPlace : ℕ → ℕ → ℕ
-  inPlace = step.inPlace m lower upper
+  inPlace = step.inPlace G
 
   abbrev inAt : ℕ → ℕ → ℕ
-  inAt = step.inAt m lower upper
+  inAt = step.inAt G
 
   abbrev took : ℕ → ℕ
-  took = step.took m lower upper
+  took = step.took G
 
   abbrev lefts : ℕ → ℕ
-  lefts = step.lefts m lower upper
+  lefts = step.lefts G
 
   abbrev rights : ℕ → ℕ
-  rights = step.rights m lower upper
+  rights = step.rights G
 
   -- the place of the incoming cable whose column rank k takes
   abbrev middle : ℕ → ℕ
@@ -55,32 +55,32 @@ module _ (m : ℕ) (lower upper : ℕ → ℕ) where
 
   -- Cable i goes out of rank r in the rank's row, or comes in in it: it is not the fourth. (The fourth is a bottom or a top connection.)
   abbrev pub Leaves : ℕ → ℕ → Type 0
-  Leaves i r = (lower i ≡ r) × (outPlace r i < 3)
+  Leaves i r = (lower G i ≡ r) × (outPlace r i < 3)
 
   abbrev pub Enters : ℕ → ℕ → Type 0
-  Enters i r = (upper i ≡ r) × (inPlace r i < 3)
+  Enters i r = (upper G i ≡ r) × (inPlace r i < 3)
 
   abbrev pub Meets : ℕ → ℕ → Type 0
   Meets i r = Leaves i r ⊎ Enters i r
 
   -- cable i has spots below and above the row of rank r
   pub data Passes (i r : ℕ) : Type 0 where
-    by : lower i < r → r < upper i → Passes i r
-    bottom : lower i ≡ r → outPlace r i ≡ 3 → Passes i r
-    top : upper i ≡ r → inPlace r i ≡ 3 → Passes i r
+    by : lower G i < r → r < upper G i → Passes i r
+    bottom : lower G i ≡ r → outPlace r i ≡ 3 → Passes i r
+    top : upper G i ≡ r → inPlace r i ≡ 3 → Passes i r
 
   -- the facts at rank r, which stands in column c, with the cables in the columns x
   pub record Stands (x : ℕ → ℕ) (c r : ℕ) : Type 0 where
-    pub passes : (i : ℕ) → i < m → Passes i r → x i ≡ c → ⊥
-    pub left : (i j : ℕ) → i < m → j < m → (i ≡ j → ⊥) → Meets i r → Meets j r → x i < c → x j < c → ⊥
-    pub right : (i j : ℕ) → i < m → j < m → (i ≡ j → ⊥) → Meets i r → Meets j r → c < x i → c < x j → ⊥
-    pub free-left : (i j : ℕ) → i < m → j < m → Leaves i r → Passes j r → x i < x j → x j < c → ⊥
-    pub free-right : (i j : ℕ) → i < m → j < m → Leaves i r → Passes j r → c < x j → x j < x i → ⊥
+    pub passes : (i : ℕ) → i < size G → Passes i r → x i ≡ c → ⊥
+    pub left : (i j : ℕ) → i < size G → j < size G → (i ≡ j → ⊥) → Meets i r → Meets j r → x i < c → x j < c → ⊥
+    pub right : (i j : ℕ) → i < size G → j < size G → (i ≡ j → ⊥) → Meets i r → Meets j r → c < x i → c < x j → ⊥
+    pub free-left : (i j : ℕ) → i < size G → j < size G → Leaves i r → Passes j r → x i < x j → x j < c → ⊥
+    pub free-right : (i j : ℕ) → i < size G → j < size G → Leaves i r → Passes j r → c < x j → x j < x i → ⊥
 
   -- cables that are open together have different columns
   abbrev pub Apart : ℕ → Type 0
   Apart k =
-      (i j : ℕ) → i < m → j < m → (i ≡ j → ⊥) → lower i < k → lower j < k → lower i < upper j → lower j < upper i
+      (i j : ℕ) → i < size G → j < size G → (i ≡ j → ⊥) → lower G i < k → lower G j < k → lower G i < upper G j → lower G j < upper G i
       → cable k i ≡ cable k j → ⊥
 
   pub record Invariant (k : ℕ) : Type 0 where
@@ -89,14 +89,14 @@ module _ (m : ℕ) (lower upper : ℕ → ℕ) where
 
   -- The facts survive a strictly increasing map
 
-  module _ (rises : (i : ℕ) → i < m → lower i < upper i) (f x y : ℕ → ℕ) (inc : Increasing f) (c r : ℕ)
-      (maps : (i : ℕ) → i < m → lower i ≤ r → y i ≡ f (x i)) where
-    passes-old : (i : ℕ) → i < m → Passes i r → y i ≡ f (x i)
+  module _ (rises : (i : ℕ) → i < size G → lower G i < upper G i) (f x y : ℕ → ℕ) (inc : Increasing f) (c r : ℕ)
+      (maps : (i : ℕ) → i < size G → lower G i ≤ r → y i ≡ f (x i)) where
+    passes-old : (i : ℕ) → i < size G → Passes i r → y i ≡ f (x i)
     passes-old i h (by l u) = maps i h (omega arith)
     passes-old i h (bottom e q) = maps i h (omega arith)
     passes-old i h (top e q) = maps i h (omega (arith, rises i h))
 
-    meets-old : (i : ℕ) → i < m → Meets i r → y i ≡ f (x i)
+    meets-old : (i : ℕ) → i < size G → Meets i r → y i ≡ f (x i)
     meets-old i h (inl l) = maps i h (omega arith)
     meets-old i h (inr e) = maps i h (omega (arith, rises i h))
 
@@ -119,10 +119,10 @@ module _ (m : ℕ) (lower upper : ℕ → ℕ) where
 
   -- Rank k gets its place
 
-  module _ (n : ℕ) (R : Ranked n m lower upper) (k : ℕ) (inside : k < n) where
+  module _ (R : Ranked G) (k : ℕ) (inside : k < G .parts) where
     pub outs-ins : outs k + ins k ≤ 4
     unfolding step.outs step.ins
-    outs-ins = omega (arith, length-outgoing m lower upper k, R .four k)
+    outs-ins = omega (arith, length-outgoing G k, R .four k)
 
     pub table : Ports (ins k) (outs k) (lefts k) (rights k)
     unfolding step.lefts step.rights
@@ -131,43 +131,43 @@ module _ (m : ℕ) (lower upper : ℕ → ℕ) where
     entered : 0 < k → 0 < ins k
     entered h =
         let c = R .entered k h inside in
-        omega (arith, inPlace-below m lower upper k (c .0) (c .1) (c .2))
+        omega (arith, inPlace-below G k (c .0) (c .1) (c .2))
 
     -- only rank 0 has a fourth outgoing cable, and none comes in there
-    pub fourth : (i : ℕ) → i < m → lower i ≡ k → outPlace k i ≡ 3 → (k ≡ 0) × (ins k ≡ 0)
+    pub fourth : (i : ℕ) → i < size G → lower G i ≡ k → outPlace k i ≡ 3 → (k ≡ 0) × (ins k ≡ 0)
     fourth i h e q = go (decLt 0 k)
       where
         go : Dec (0 < k) → (k ≡ 0) × (ins k ≡ 0)
-        go (yes l) = absurd (omega (arith, entered l, outPlace-below m lower upper k i h e, outs-ins))
-        go (no l) = omega (arith, outPlace-below m lower upper k i h e, outs-ins)
+        go (yes l) = absurd (omega (arith, entered l, outPlace-below G k i h e, outs-ins))
+        go (no l) = omega (arith, outPlace-below G k i h e, outs-ins)
 
-    leaves-of : (i : ℕ) → i < m → lower i ≡ k → (outPlace k i ≡ 3 → ⊥) → Leaves i k
-    leaves-of i h e d = (e, omega (arith, outPlace-below m lower upper k i h e, outs-ins))
+    leaves-of : (i : ℕ) → i < size G → lower G i ≡ k → (outPlace k i ≡ 3 → ⊥) → Leaves i k
+    leaves-of i h e d = (e, omega (arith, outPlace-below G k i h e, outs-ins))
 
     -- Outgoing cables: the first three in the block of columns from the one taken, the fourth right of it
 
-    leaves-at : (i : ℕ) → i < m → Leaves i k → cable (suc k) i ≡ took k + outPlace k i
+    leaves-at : (i : ℕ) → i < size G → Leaves i k → cable (suc k) i ≡ took k + outPlace k i
     unfolding columnAt
-    leaves-at i h l = cable-opened m lower upper k i h (l .0) ∙ rw (ne-eqb (outPlace k i) 3 (omega arith))
+    leaves-at i h l = cable-opened G k i h (l .0) ∙ rw (ne-eqb (outPlace k i) 3 (omega arith))
 
-    leaves-in : (i : ℕ) → i < m → Leaves i k → cable (suc k) i ≤ took k + lefts k + rights k
+    leaves-in : (i : ℕ) → i < size G → Leaves i k → cable (suc k) i ≤ took k + lefts k + rights k
     leaves-in i h l =
-        omega (arith, leaves-at i h l, table .wide (outPlace k i) (outPlace-below m lower upper k i h (l .0)) (l .1))
+        omega (arith, leaves-at i h l, table .wide (outPlace k i) (outPlace-below G k i h (l .0)) (l .1))
 
-    bottom-at : (i : ℕ) → i < m → lower i ≡ k → outPlace k i ≡ 3 → cable (suc k) i ≡ width k + lefts k + rights k
+    bottom-at : (i : ℕ) → i < size G → lower G i ≡ k → outPlace k i ≡ 3 → cable (suc k) i ≡ width k + lefts k + rights k
     unfolding columnAt
-    bottom-at i h e q = cable-opened m lower upper k i h e ∙ rw (eq-eqb (outPlace k i) 3 q)
+    bottom-at i h e q = cable-opened G k i h e ∙ rw (eq-eqb (outPlace k i) 3 q)
 
-    bottom-out : (i : ℕ) → i < m → lower i ≡ k → outPlace k i ≡ 3 → took k + lefts k + rights k < cable (suc k) i
+    bottom-out : (i : ℕ) → i < size G → lower G i ≡ k → outPlace k i ≡ 3 → took k + lefts k + rights k < cable (suc k) i
     bottom-out i h e q =
         let z = fourth i h e q in
-        let w : width k ≡ 1 = ap width (z .0) ∙ width-start m lower upper in
-        omega (arith, bottom-at i h e q, took-none m lower upper k (z .1))
+        let w : width k ≡ 1 = ap width (z .0) ∙ width-start G in
+        omega (arith, bottom-at i h e q, took-none G k (z .1))
 
     -- of two outgoing cables
-    outs-apart : (i j : ℕ) → i < m → j < m → lower i ≡ k → lower j ≡ k → cable (suc k) i ≡ cable (suc k) j → i ≡ j
+    outs-apart : (i j : ℕ) → i < size G → j < size G → lower G i ≡ k → lower G j ≡ k → cable (suc k) i ≡ cable (suc k) j → i ≡ j
     outs-apart i j h g e f q =
-        outPlace-one m lower upper k i j h g e f (go (ℕ-discrete (outPlace k i) 3) (ℕ-discrete (outPlace k j) 3))
+        outPlace-one G k i j h g e f (go (ℕ-discrete (outPlace k i) 3) (ℕ-discrete (outPlace k j) 3))
       where
         go : Dec (outPlace k i ≡ 3) → Dec (outPlace k j ≡ 3) → outPlace k i ≡ outPlace k j
         go (yes a) (yes b) = a ∙ sym b
@@ -177,16 +177,16 @@ module _ (m : ℕ) (lower upper : ℕ → ℕ) where
 
     -- Incoming cables, and those that pass
 
-    old : (i : ℕ) → i < m → lower i < k → cable (suc k) i ≡ moved (took k) (lefts k) (rights k) (cable k i)
-    old i h l = cable-kept m lower upper k i h (omega arith)
+    old : (i : ℕ) → i < size G → lower G i < k → cable (suc k) i ≡ moved (took k) (lefts k) (rights k) (cable k i)
+    old i h l = cable-kept G k i h (omega arith)
 
-    entering : (i : ℕ) → i < m → upper i ≡ k → lower i < k
+    entering : (i : ℕ) → i < size G → upper G i ≡ k → lower G i < k
     entering i h e = omega (arith, R .rises i h)
 
-    some : (i : ℕ) → i < m → upper i ≡ k → 0 < ins k
-    some i h e = omega (arith, inPlace-below m lower upper k i h e)
+    some : (i : ℕ) → i < size G → upper G i ≡ k → 0 < ins k
+    some i h e = omega (arith, inPlace-below G k i h e)
 
-    enters-left : (i : ℕ) → i < m → Enters i k → cable k i < took k → inPlace k i < middle k
+    enters-left : (i : ℕ) → i < size G → Enters i k → cable k i < took k → inPlace k i < middle k
     enters-left i h e l = go (decLt (inPlace k i) (middle k))
       where
         go : Dec (inPlace k i < middle k) → inPlace k i < middle k
@@ -195,12 +195,12 @@ module _ (m : ℕ) (lower upper : ℕ → ℕ) where
             absurd
             (omega (
               arith,
-              inAt-rises m lower upper k (middle k) (inPlace k i) (omega arith) (inPlace-below m lower upper k i h (e .0)),
-              ap (cable k) (inAt-inPlace m lower upper k i h (e .0)),
-              took-comes m lower upper k (some i h (e .0)),
+              inAt-rises G k (middle k) (inPlace k i) (omega arith) (inPlace-below G k i h (e .0)) (e .1),
+              ap (cable k) (inAt-inPlace G k i h (e .0)),
+              took-comes G k (some i h (e .0)),
             ))
 
-    enters-right : (i : ℕ) → i < m → Enters i k → took k < cable k i → middle k < inPlace k i
+    enters-right : (i : ℕ) → i < size G → Enters i k → took k < cable k i → middle k < inPlace k i
     enters-right i h e l = go (decLt (middle k) (inPlace k i))
       where
         go : Dec (middle k < inPlace k i) → middle k < inPlace k i
@@ -209,68 +209,68 @@ module _ (m : ℕ) (lower upper : ℕ → ℕ) where
             absurd
             (omega (
               arith,
-              inAt-rises m lower upper k (inPlace k i) (middle k) (omega arith) (omega (arith, some i h (e .0))),
-              ap (cable k) (inAt-inPlace m lower upper k i h (e .0)),
-              took-comes m lower upper k (some i h (e .0)),
+              inAt-rises G k (inPlace k i) (middle k) (omega arith) (omega (arith, some i h (e .0))) (omega (arith, outs-ins)),
+              ap (cable k) (inAt-inPlace G k i h (e .0)),
+              took-comes G k (some i h (e .0)),
             ))
 
     -- A side of the part has one outgoing cable, at place s, where at most b come in, or one incoming, at place t, where more do
 
     abbrev Side : ℕ → ℕ → ℕ → ℕ → Type 0
-    Side s t b i = ((lower i ≡ k) × (outPlace k i ≡ s) × (ins k ≤ b)) ⊎ ((upper i ≡ k) × (inPlace k i ≡ t) × (b < ins k))
+    Side s t b i = ((lower G i ≡ k) × (outPlace k i ≡ s) × (ins k ≤ b)) ⊎ ((upper G i ≡ k) × (inPlace k i ≡ t) × (b < ins k))
 
-    one-side : (s t b i j : ℕ) → i < m → j < m → Side s t b i → Side s t b j → i ≡ j
-    one-side s t b i j h g (inl c) (inl d) = outPlace-one m lower upper k i j h g (c .0) (d .0) (c .1 ∙ sym (d .1))
+    one-side : (s t b i j : ℕ) → i < size G → j < size G → Side s t b i → Side s t b j → i ≡ j
+    one-side s t b i j h g (inl c) (inl d) = outPlace-one G k i j h g (c .0) (d .0) (c .1 ∙ sym (d .1))
     one-side s t b i j h g (inl c) (inr d) = absurd (omega arith)
     one-side s t b i j h g (inr c) (inl d) = absurd (omega arith)
-    one-side s t b i j h g (inr c) (inr d) = inPlace-one m lower upper k i j h g (c .0) (d .0) (c .1 ∙ sym (d .1))
+    one-side s t b i j h g (inr c) (inr d) = inPlace-one G k i j h g (c .0) (d .0) (c .1 ∙ sym (d .1))
 
-    left-side : (i : ℕ) → i < m → Meets i k → cable (suc k) i < part (suc k) k → Side 0 0 2 i
+    left-side : (i : ℕ) → i < size G → Meets i k → cable (suc k) i < part (suc k) k → Side 0 0 2 i
     left-side i h (inl l) s =
-        let b : outPlace k i < lefts k = omega (arith, leaves-at i h l, part-opened m lower upper k) in
+        let b : outPlace k i < lefts k = omega (arith, leaves-at i h l, part-opened G k) in
         inl (l .0, omega (arith, table .one-left), table .new-left (omega arith))
     left-side i h (inr e) s =
         let b : cable k i < took k =
-        moved-from-left (took k) (lefts k) (rights k) (cable k i) (omega (arith, old i h (entering i h (e .0)), part-opened m lower upper k)) in
+        moved-from-left (took k) (lefts k) (rights k) (cable k i) (omega (arith, old i h (entering i h (e .0)), part-opened G k)) in
         let q = in-left (ins k) (inPlace k i) (omega (arith, outs-ins)) (enters-left i h e b) in
         inr (e .0, q .0, q .1)
 
-    right-side : (i : ℕ) → i < m → Meets i k → part (suc k) k < cable (suc k) i → Side (lefts k + 1) (middle k + 1) 1 i
+    right-side : (i : ℕ) → i < size G → Meets i k → part (suc k) k < cable (suc k) i → Side (lefts k + 1) (middle k + 1) 1 i
     right-side i h (inl l) s =
-        let b : lefts k < outPlace k i = omega (arith, leaves-at i h l, part-opened m lower upper k) in
-        let q = table .new-right (outPlace k i) (outPlace-below m lower upper k i h (l .0)) (l .1) b in
+        let b : lefts k < outPlace k i = omega (arith, leaves-at i h l, part-opened G k) in
+        let q = table .new-right (outPlace k i) (outPlace-below G k i h (l .0)) (l .1) b in
         inl (l .0, q .1, q .0)
     right-side i h (inr e) s =
         let b : took k < cable k i =
-        moved-from-right (took k) (lefts k) (rights k) (cable k i) (omega (arith, old i h (entering i h (e .0)), part-opened m lower upper k)) in
-        let q = in-right (ins k) (inPlace k i) (omega (arith, outs-ins)) (inPlace-below m lower upper k i h (e .0)) (e .1) (enters-right i h e b) in
+        moved-from-right (took k) (lefts k) (rights k) (cable k i) (omega (arith, old i h (entering i h (e .0)), part-opened G k)) in
+        let q = in-right (ins k) (inPlace k i) (omega (arith, outs-ins)) (inPlace-below G k i h (e .0)) (e .1) (enters-right i h e b) in
         inr (e .0, q .0, q .1)
 
     module _ (I : Invariant k) where
       -- a cable that is open at k and not at the taken place is not in the column taken
-      aside : (i : ℕ) → i < m → lower i < k → k ≤ upper i → (upper i ≡ k → inPlace k i ≡ middle k → ⊥) → cable k i ≡ took k → ⊥
+      aside : (i : ℕ) → i < size G → lower G i < k → k ≤ upper G i → (upper G i ≡ k → inPlace k i ≡ middle k → ⊥) → cable k i ≡ took k → ⊥
       aside i h l u d e =
           I .apart i (inAt k (middle k)) h (there .0) other l (omega (arith, R .rises _ (there .0), there .1)) (omega (arith, there .1))
-          (omega (arith, R .rises _ (there .0), there .1)) (e ∙ took-comes m lower upper k (entered (omega arith)))
+          (omega (arith, R .rises _ (there .0), there .1)) (e ∙ took-comes G k (entered (omega arith)))
         where
-          there : (inAt k (middle k) < m) × (upper (inAt k (middle k)) ≡ k)
-          there = inAt-comes m lower upper k (middle k) (omega (arith, entered (omega arith)))
+          there : (inAt k (middle k) < size G) × (upper G (inAt k (middle k)) ≡ k)
+          there = inAt-comes G k (middle k) (omega (arith, entered (omega arith)))
 
           other : i ≡ inAt k (middle k) → ⊥
           other q =
-              let f : upper i ≡ k = ap upper q ∙ there .1 in
+              let f : upper G i ≡ k = ap (upper G) q ∙ there .1 in
               d f
-              (inAt-one m lower upper k (inPlace k i) (middle k) (inPlace-below m lower upper k i h f)
-              (omega (arith, some i h f)) (inAt-inPlace m lower upper k i h f ∙ q))
+              (inAt-one G k (inPlace k i) (middle k) (inPlace-below G k i h f)
+              (omega (arith, some i h f)) (inAt-inPlace G k i h f ∙ q))
 
       -- so it is moved out of the block
-      aside-out : (i : ℕ) → i < m → lower i < k → k ≤ upper i → (upper i ≡ k → inPlace k i ≡ middle k → ⊥)
+      aside-out : (i : ℕ) → i < size G → lower G i < k → k ≤ upper G i → (upper G i ≡ k → inPlace k i ≡ middle k → ⊥)
           → took k ≤ cable (suc k) i → cable (suc k) i ≤ took k + lefts k + rights k → ⊥
       aside-out i h l u d s t =
           moved-outside (took k) (lefts k) (rights k) (cable k i) (aside i h l u d)
           (omega (arith, old i h l)) (omega (arith, old i h l))
 
-      passes-out : (i : ℕ) → i < m → Passes i k
+      passes-out : (i : ℕ) → i < size G → Passes i k
           → took k ≤ cable (suc k) i → cable (suc k) i ≤ took k + lefts k + rights k → ⊥
       passes-out i h (by l u) = aside-out i h l (omega arith) (λ e q. omega arith)
       passes-out i h (bottom e q) = λ s t. omega (arith, bottom-out i h e q)
@@ -278,17 +278,17 @@ module _ (m : ℕ) (lower upper : ℕ → ℕ) where
 
       stands-new : Stands (cable (suc k)) (part (suc k) k) k
       stands-new = record {
-        passes = λ i h p q. passes-out i h p (omega (arith, part-opened m lower upper k)) (omega (arith, part-opened m lower upper k));
+        passes = λ i h p q. passes-out i h p (omega (arith, part-opened G k)) (omega (arith, part-opened G k));
         left = λ i j h g d a b s t. d (one-side 0 0 2 i j h g (left-side i h a s) (left-side j g b t));
         right = λ i j h g d a b s t. d (one-side (lefts k + 1) (middle k + 1) 1 i j h g (right-side i h a s) (right-side j g b t));
         free-left = λ i j h g a b s t.
-            passes-out j g b (omega (arith, leaves-at i h a)) (omega (arith, part-opened m lower upper k));
+            passes-out j g b (omega (arith, leaves-at i h a)) (omega (arith, part-opened G k));
         free-right = λ i j h g a b s t.
-            passes-out j g b (omega (arith, part-opened m lower upper k)) (omega (arith, leaves-in i h a));
+            passes-out j g b (omega (arith, part-opened G k)) (omega (arith, leaves-in i h a));
       }
 
       -- an outgoing cable and one that passes
-      opens-apart : (i j : ℕ) → i < m → j < m → lower i ≡ k → lower j < k → k < upper j → cable (suc k) i ≡ cable (suc k) j → ⊥
+      opens-apart : (i j : ℕ) → i < size G → j < size G → lower G i ≡ k → lower G j < k → k < upper G j → cable (suc k) i ≡ cable (suc k) j → ⊥
       opens-apart i j h g e l u q = go (ℕ-discrete (outPlace k i) 3)
         where
           go : Dec (outPlace k i ≡ 3) → ⊥
@@ -298,9 +298,9 @@ module _ (m : ℕ) (lower upper : ℕ → ℕ) where
               passes-out j g (by l u) (omega (arith, leaves-at i h b)) (omega (arith, leaves-in i h b))
 
       apart-next : Apart (suc k)
-      apart-next i j h g d a b u v q = go (ℕ-discrete (lower i) k) (ℕ-discrete (lower j) k)
+      apart-next i j h g d a b u v q = go (ℕ-discrete (lower G i) k) (ℕ-discrete (lower G j) k)
         where
-          go : Dec (lower i ≡ k) → Dec (lower j ≡ k) → ⊥
+          go : Dec (lower G i ≡ k) → Dec (lower G j ≡ k) → ⊥
           go (yes e) (yes f) = d (outs-apart i j h g e f q)
           go (yes e) (no f) = opens-apart i j h g e (omega arith) (omega arith) q
           go (no e) (yes f) = opens-apart j i g h f (omega arith) (omega arith) (sym q)
@@ -316,7 +316,7 @@ module _ (m : ℕ) (lower upper : ℕ → ℕ) where
           go r h (yes l) =
               stands-moved (R .rises) (moved (took k) (lefts k) (rights k)) (cable k) (cable (suc k))
               (moved-increasing (took k) (lefts k) (rights k)) (part k r) r
-              (λ i b c. old i b (omega arith)) (part (suc k) r) (part-kept m lower upper k r l) (I .stands r l)
+              (λ i b c. old i b (omega arith)) (part (suc k) r) (part-kept G k r l) (I .stands r l)
           go r h (no l) =
               let e : r ≡ k = omega arith in
               rw e stands-new
@@ -324,6 +324,6 @@ module _ (m : ℕ) (lower upper : ℕ → ℕ) where
   pub start : Invariant 0
   start = record { apart = λ i j h g d a b u v q. omega arith; stands = λ r h. absurd (omega arith) }
 
-  pub invariant : (n : ℕ) → Ranked n m lower upper → (k : ℕ) → k ≤ n → Invariant k
-  invariant n R zero h = start
-  invariant n R (suc k) h = next n R k h (invariant n R k (omega arith))
+  pub invariant : Ranked G → (k : ℕ) → k ≤ G .parts → Invariant k
+  invariant R zero h = start
+  invariant R (suc k) h = next R k h (invariant R k (omega arith))

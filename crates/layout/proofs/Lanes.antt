@@ -1,24 +1,57 @@
 -- The bottom and the top connection and the course of a cable, as the code reads them. Assumes nothing.
 use Prim.Native.Nat.{ℕ, _+_, _-_, _<_, _≤_}
 use native.Mathlib.Omega.{arith}
-use mathlib.Core.Path.{_≡_, refl, ap, _∙_}
-use mathlib.Core.Bool.{Bool, cond, _&&_}
-use mathlib.Core.List.{List, map}
-use lib.ListN.{length, getD}
-use lib.Dec.{eqb}
-use Rattle.lists.specs.Select.{indexOf, oneIf}
+use mathlib.Core.Path.{_≡_, refl, sym, ap, ap₂, _∙_}
+use mathlib.Core.Bool.{cond}
+use mathlib.Core.List.{List}
+use lib.ListN.{length, getD, take}
+use lib.Seq.{getD-take}
+use lib.Dec.{eqb, ltb}
+use Rattle.lists.specs.Select.{oneIf}
 use Rattle.lists.proofs.Tests.{oneIf-le}
-use Rattle.layout.specs.declared.points.Spot as code-spot
-use Rattle.layout.specs.declared.points.Course as code-course
-use Rattle.layout.specs.declared.points.Ends.{Ends}
-use Rattle.layout.specs.Ranked.{linesAt}
-use Rattle.layout.specs.Columns.{outgoing, incoming}
-use Rattle.layout.specs.Points.{Spot, Course, bottomRows, topRows, row, isBottom, isTop, partSpot, course, courseOf}
-use Rattle.layout.specs.Readings.{at, lineOf, held, Holds}
-use Rattle.layout.specs.Standing.{Given, Laid}
-use Rattle.layout.specs.Courses.{spotAt, spotIn, courseIn, EndsOf}
+use Rattle.order.specs.Graph.{StGraph, size, lower, upper, linesAt, Ranked}
+use Rattle.order.specs.Arrays.{graphIn}
+use Rattle.order.specs.declared.Graph.{Graph}
+use Rattle.drawing.specs.Spots.{Spot, spotAt, spotIn}
+use Rattle.layout.specs.declared.Columns as code-columns
+use Rattle.layout.specs.declared.Course as code-course
+use Rattle.layout.specs.declared.incident.Incident.{Incident}
+use Rattle.layout.specs.declared.ends.Ends.{Ends}
+use Rattle.layout.specs.declared.courses.Cable.{Cable}
+use Rattle.layout.specs.Columns.{bottomLine, topLine, columns}
+use Rattle.layout.specs.Points.{Course, bottomRows, row, partSpot, course, courseOf}
+use Rattle.layout.specs.Arrays.{courseIn, Given}
+use Rattle.layout.specs.Incidents.{at, linesIn, Outgoing, Incoming}
+use Rattle.layout.specs.Placements.{ColumnsOf}
+use Rattle.layout.specs.Courses.{EndsOf, cableOf, CableOf, Reaches, IsCourse}
 use Rattle.layout.proofs.Insertion.{lines-held}
-use Rattle.layout.proofs.Step.{length-cables, length-outgoing, length-incoming}
+use Rattle.layout.proofs.Step.{length-parts}
+use Rattle.layout.proofs.Connections.{bottom-fourth, bottom-rows, top-fourth, top-rows}
+use Rattle.layout.proofs.Standing.{four-out, ins-held}
+
+-- The ends
+
+module _ {G : StGraph} (R : Ranked G) where
+  pub bottom-reads : {f : Incident} {m r : ℕ} → Outgoing (G .lowers) (G .uppers) 0 f → m ≡ size G → r ≡ getD (linesIn f) 3 m → r ≡ bottomLine G
+  bottom-reads h e q = q ∙ rw (lines-held (upper G) (h (G .parts)), e) (bottom-fourth G (four-out R 0))
+
+  four-last : length (linesAt (size G) (upper G) (G .parts - 1)) ≤ 4
+  four-last = omega (arith, R .four (G .parts - 1))
+
+  pub top-reads : {f : Incident} {m r : ℕ} (xs : List ℕ) → Incoming (G .uppers) xs (G .parts - 1) f → m ≡ size G → r ≡ getD (linesIn f) 3 m → r ≡ topLine G xs
+  top-reads xs h e q = q ∙ rw (lines-held (at xs) (ins-held R xs (G .parts - 1) h), e) (top-fourth G xs four-last)
+
+  pub ends-read :
+      {e : Ends} {m : ℕ} → m ≡ size G → e .«bottom_line» ≡ bottomLine G → e .«top_line» ≡ topLine G (columns G (G .parts) .cables)
+      → e .«bottom_rows» ≡ oneIf (ltb (e .«bottom_line») m) → e .«top_rows» ≡ oneIf (ltb (e .«top_line») m) → EndsOf G e
+  ends-read q b t d r = record {
+    bottom-rows = d ∙ rw (b, q) (sym (bottom-rows G (four-out R 0)));
+    top-rows = r ∙ rw (t, q) (sym (top-rows G (columns G (G .parts) .cables) four-last));
+    bottom-line = b;
+    top-line = t;
+  }
+
+-- A course
 
 course-same :
     {f f′ t t′ : Spot} {l l′ c c′ h h′ : ℕ} → f ≡ f′ → l ≡ l′ → c ≡ c′ → h ≡ h′ → t ≡ t′
@@ -29,57 +62,57 @@ course-same e f g h i = cc
 spot-read : {s : Spot} {ps qs : List ℕ} {a a′ d d′ : ℕ} → s ≡ spotAt (getD ps a 0) (d + a) → ps ≡ qs → a ≡ a′ → d ≡ d′ → s ≡ spotAt (getD qs a′ 0) (d′ + a′)
 spot-read e f g h = cc
 
-lane-read : {s u u′ v v′ d d′ : ℕ} {b b′ : Bool} → s ≡ cond b u (d + v) → u ≡ u′ → v ≡ v′ → d ≡ d′ → b ≡ b′ → s ≡ cond b′ u′ (d′ + v′)
-lane-read e f g h i = cc
+lane-read : (i : ℕ) {s l l′ u u′ v v′ d d′ : ℕ} → s ≡ cond (eqb i l) u (d + v) → l ≡ l′ → u ≡ u′ → v ≡ v′ → d ≡ d′ → s ≡ cond (eqb i l′) u′ (d′ + v′)
+lane-read i e f g h j = cc
 
-pub lines-laid : (n : ℕ) (lowers uppers : List ℕ) {xs ps : List ℕ} → Laid n lowers uppers xs ps → length xs ≡ length lowers
-lines-laid n lowers uppers l = ap length (l .cables) ∙ length-cables (length lowers) (at lowers) (at uppers) n
+pub course-read :
+    {e : Ends} {c : Cable} {r : code-course.Course} (ps : List ℕ) (n : ℕ) → n ≡ length ps
+    → spotIn (r .from) ≡ spotAt (getD ps (c .lower) 0) (e .«bottom_rows» + c .lower) → r .low ≡ cond (eqb (c .line) (e .«bottom_line»)) 0 (e .«bottom_rows» + c .lower)
+    → r .column ≡ c .column
+    → r .high ≡ cond (eqb (c .line) (e .«top_line»)) (e .«bottom_rows» + n) (e .«bottom_rows» + c .upper)
+    → spotIn (r .to) ≡ spotAt (getD ps (c .upper) 0) (e .«bottom_rows» + c .upper)
+    → (G : StGraph) → ps ≡ columns G (G .parts) .parts → EndsOf G e → CableOf G c → courseIn r ≡ courseOf G (c .line)
+unfolding courseOf course partSpot row
+course-read {e} {c} ps n q sf sl sc sh st G p h k =
+    course-same
+    (spot-read sf p (k .lower-rank) (h .bottom-rows))
+    (lane-read (c .line) sl (h .bottom-line) refl (k .lower-rank) (h .bottom-rows))
+    (sc ∙ k .own-column)
+    (lane-read (c .line) sh (h .top-line) (ap₂ _+_ (h .bottom-rows) (q ∙ ap length p ∙ length-parts G (G .parts))) (k .upper-rank) (h .bottom-rows))
+    (spot-read st p (k .upper-rank) (h .bottom-rows))
 
-module _ {n : ℕ} {lowers uppers xs : List ℕ} where
-  pub ends-read :
-      {e : Ends} → Holds (at uppers) (e .bottoms) (outgoing (length lowers) (at lowers) (at uppers) 0)
-      → Holds (at xs) (e .tops) (incoming (length lowers) (at lowers) (at uppers) xs (n - 1)) → e .below ≡ oneIf (eqb (e .bottoms .count) 4)
-      → e .above ≡ oneIf (eqb (e .tops .count) 4) → EndsOf n lowers uppers xs e
-  unfolding bottomRows topRows
-  ends-read hb ht eb et = record {
-    below = eb ∙ ap (λ (k : ℕ). oneIf (eqb k 4)) (hb .count ∙ length-outgoing (length lowers) (at lowers) (at uppers) 0);
-    above = et ∙ ap (λ (k : ℕ). oneIf (eqb k 4)) (ht .count ∙ length-incoming (length lowers) (at lowers) (at uppers) xs (n - 1));
-    bottoms = hb;
-    tops = ht;
-  }
+-- The cable at line i, of arrays
 
-  module _ {e : Ends} (h : EndsOf n lowers uppers xs e) where
-    pub below-le : e .below ≤ 1
+module _
+    {g : Graph} (v : Given g) {c : code-columns.Columns} (s : ColumnsOf g (g .parts) c) (i : ℕ) (b : i < g .cables)
+    {k : Cable} (q : k ≡ cableOf i (getD (g .lower) i 0) (getD (g .upper) i 0) (getD (c .cables) i 0)) {e : Ends} (h : EndsOf (graphIn g) e)
+  where
+    cable-read : CableOf (graphIn g) k
+    cable-read =
+        rw q
+        (record {
+          lower-rank = sym (getD-take (g .cables) (g .lower) i 0 b);
+          upper-rank = sym (getD-take (g .cables) (g .upper) i 0 b);
+          own-column = sym (getD-take (g .cables) (c .cables) i 0 b) ∙ ap (λ (l : List ℕ). getD l i 0) (s .cables);
+        })
+
+    on-line : k .line ≡ i
+    on-line = ap (λ (z : Cable). z .line) q
+
+    pub cable-reaches : (n : ℕ) → g .cables ≡ size (graphIn g) → g .parts ≡ n → Reaches n e k
     unfolding bottomRows
-    below-le = omega (arith, h .below, oneIf-le (eqb (length (linesAt (length lowers) (at lowers) 0)) 4))
+    cable-reaches n f p =
+        let r = cable-read in
+        let low : k .lower ≡ lower (graphIn g) i = r .lower-rank ∙ ap (lower (graphIn g)) on-line in
+        let high : k .upper ≡ upper (graphIn g) i = r .upper-rank ∙ ap (upper (graphIn g)) on-line in
+        let u = v .ranked .rises i (omega arith) in
+        let w = v .ranked .inside i (omega arith) in
+        record {
+          lower-part = omega arith;
+          upper-part = omega arith;
+          most = omega (arith, v .most);
+          below = omega (arith, h .bottom-rows, oneIf-le (eqb (length (linesAt (size (graphIn g)) (lower (graphIn g)) 0)) 4));
+        }
 
-    -- the ranks of the cable at line i, and the row below rank 0
-    pub within : (i : ℕ) → Given n lowers uppers → i < length lowers → (at lowers i < n) × (at uppers i < n) × (n ≤ 256) × (e .below ≤ 1) × (i < length uppers)
-    within i g b = omega (arith, g .ranked .rises i b, g .ranked .inside i b, g .parts, below-le, g .lines)
-
-    pub bottom-read :
-        {r : Bool} {v : ℕ} (i : ℕ) → v ≡ at lowers i → r ≡ (eqb v 0 && eqb (indexOf i (map lineOf (held (e .bottoms)))) 3)
-        → r ≡ isBottom n (length lowers) (at lowers) (at uppers) i
-    unfolding isBottom
-    bottom-read i ev er = er ∙ rw (ev, lines-held (at uppers) (h .bottoms))
-
-    pub top-read :
-        {r : Bool} {v : ℕ} (i : ℕ) → v ≡ at uppers i → r ≡ (eqb v (n - 1) && eqb (indexOf i (map lineOf (held (e .tops)))) 3)
-        → r ≡ isTop n (length lowers) (at lowers) (at uppers) xs i
-    unfolding isTop
-    top-read i ev er = er ∙ rw (ev, lines-held (at xs) (h .tops))
-
-    pub course-read :
-        {r : code-course.Course} {a b : ℕ} {bt tp : Bool} (ps : List ℕ) (i : ℕ) → Laid n lowers uppers xs ps → a ≡ at lowers i → b ≡ at uppers i
-        → bt ≡ isBottom n (length lowers) (at lowers) (at uppers) i → tp ≡ isTop n (length lowers) (at lowers) (at uppers) xs i
-        → spotIn (r .from) ≡ spotAt (getD ps a 0) (e .below + a) → r .low ≡ cond bt 0 (e .below + a) → r .column ≡ getD xs i 0
-        → r .high ≡ cond tp (e .below + n) (e .below + b) → spotIn (r .to) ≡ spotAt (getD ps b 0) (e .below + b)
-        → courseIn r ≡ courseOf n (length lowers) (at lowers) (at uppers) i
-    unfolding courseOf course partSpot row
-    course-read ps i l ea eb et ep sf sl sc sh st =
-        course-same
-        (spot-read sf (l .parts) ea (h .below))
-        (lane-read sl refl ea (h .below) et)
-        (sc ∙ ap (λ (q : List ℕ). getD q i 0) (l .cables))
-        (lane-read sh (ap (λ (d : ℕ). d + n) (h .below)) eb (h .below) (ep ∙ ap (λ (q : List ℕ). isTop n (length lowers) (at lowers) (at uppers) q i) (l .cables)))
-        (spot-read st (l .parts) eb (h .below))
+    pub cable-course : {r : code-course.Course} → IsCourse (take (g .parts) (c .parts)) e k r → courseIn r ≡ courseOf (graphIn g) i
+    cable-course t = t (graphIn g) (s .parts) h cable-read ∙ ap (courseOf (graphIn g)) on-line

@@ -1,5 +1,5 @@
 -- Laws of the layout: what its construction establishes (Facts, by Placed), its sizes (Sizes), what follows of meetings (Meet) and crossings (Cross),
--- and what the code's loops keep (Insertion to Lanes).
+-- and what the code rests on (Connections to Lanes).
 pub mod Facts
 pub mod Step
 pub mod Moved
@@ -18,10 +18,12 @@ pub mod Place
 pub mod Meet
 pub mod Maps
 pub mod Cross
-pub mod Agreement
+pub mod Drawn
+pub mod Worked
+pub mod Connections
 pub mod Insertion
 pub mod Collecting
 pub mod Bounds
-pub mod Next
+pub mod Lengths
+pub mod Standing
 pub mod Lanes
-pub mod Worked

@@ -3,7 +3,8 @@
 use Prim.Native.Nat.{ℕ, _<_}
 use mathlib.Core.Path.{_≡_}
 use mathlib.Core.Logic.{_⊎_, inl, inr}
-use Rattle.layout.specs.Lines.{Meetings}
+use Rattle.order.specs.Graph.{StGraph, size, lower, upper}
+use Rattle.drawing.specs.Lines.{Meetings}
 use Rattle.layout.proofs.Facts.{Facts}
 use Rattle.layout.proofs.Meet.{lineOf, meetings}
 use Rattle.lists.proofs.Increasing.{Increasing, increasing-one, increasing-less, increasing-le}
@@ -15,19 +16,19 @@ module _ (f : ℕ → ℕ) (inc : Increasing f) where
 
 module _ (f g : ℕ → ℕ) (mf : Increasing f) (mg : Increasing g) where
   pub facts-map :
-      (n m : ℕ) (lower upper x lo hi col row : ℕ → ℕ) → Facts n m lower upper x lo hi col row
-      → Facts n m lower upper (λ i. f (x i)) (λ i. g (lo i)) (λ i. g (hi i)) (λ k. f (col k)) (λ k. g (row k))
-  facts-map n m lower upper x lo hi col row F =
+      (G : StGraph) (x lo hi col row : ℕ → ℕ) → Facts G x lo hi col row
+      → Facts G (λ i. f (x i)) (λ i. g (lo i)) (λ i. g (hi i)) (λ k. f (col k)) (λ k. g (row k))
+  facts-map G x lo hi col row F =
       record {
         rises = F .rises;
         inside = F .inside;
         rows = λ j k l q. mg (row j) (row k) (F .rows j k l q);
-        lo-le = λ i l. increasing-le g mg (lo i) (row (lower i)) (F .lo-le i l);
-        hi-ge = λ i l. increasing-le g mg (row (upper i)) (hi i) (F .hi-ge i l);
-        dip = λ i l d. F .dip i l (increasing-less g mg (lo i) (row (lower i)) d);
-        climb = λ i l d. F .climb i l (increasing-less g mg (row (upper i)) (hi i) d);
-        one-dip = λ i j l q d e. F .one-dip i j l q (increasing-less g mg (lo i) (row (lower i)) d) (increasing-less g mg (lo j) (row (lower j)) e);
-        one-climb = λ i j l q d e. F .one-climb i j l q (increasing-less g mg (row (upper i)) (hi i) d) (increasing-less g mg (row (upper j)) (hi j) e);
+        lo-le = λ i l. increasing-le g mg (lo i) (row (lower G i)) (F .lo-le i l);
+        hi-ge = λ i l. increasing-le g mg (row (upper G i)) (hi i) (F .hi-ge i l);
+        dip = λ i l d. F .dip i l (increasing-less g mg (lo i) (row (lower G i)) d);
+        climb = λ i l d. F .climb i l (increasing-less g mg (row (upper G i)) (hi i) d);
+        one-dip = λ i j l q d e. F .one-dip i j l q (increasing-less g mg (lo i) (row (lower G i)) d) (increasing-less g mg (lo j) (row (lower G j)) e);
+        one-climb = λ i j l q d e. F .one-climb i j l q (increasing-less g mg (row (upper G i)) (hi i) d) (increasing-less g mg (row (upper G j)) (hi j) e);
         lanes = λ i j l q z a b e. F .lanes i j l q z (increasing-less g mg (lo i) (hi j) a) (increasing-less g mg (lo j) (hi i) b) (increasing-one f mf (x i) (x j) e);
         passes = λ i k l q a b e. F .passes i k l q (increasing-less g mg (lo i) (row k) a) (increasing-less g mg (row k) (hi i) b) (increasing-one f mf (x i) (col k) e);
         left = λ i j k l q r z a b c d.
@@ -46,9 +47,9 @@ module _ (f g : ℕ → ℕ) (mf : Increasing f) (mg : Increasing g) where
 
   -- so a sheet with pitches and a margin has the meetings too
   pub meetings-map :
-      (n m : ℕ) (lower upper x lo hi col row : ℕ → ℕ) → Facts n m lower upper x lo hi col row
-      → Meetings n m (λ k. record { x = f (col k); y = g (row k) }) lower upper
-      (lineOf lower upper (λ i. f (x i)) (λ i. g (lo i)) (λ i. g (hi i)) (λ k. f (col k)) (λ k. g (row k)))
-  meetings-map n m lower upper x lo hi col row F =
-      meetings n m lower upper (λ i. f (x i)) (λ i. g (lo i)) (λ i. g (hi i)) (λ k. f (col k)) (λ k. g (row k))
-      (facts-map n m lower upper x lo hi col row F)
+      (G : StGraph) (x lo hi col row : ℕ → ℕ) → Facts G x lo hi col row
+      → Meetings (G .parts) (size G) (λ k. record { x = f (col k); y = g (row k) }) (lower G) (upper G)
+      (lineOf G (λ i. f (x i)) (λ i. g (lo i)) (λ i. g (hi i)) (λ k. f (col k)) (λ k. g (row k)))
+  meetings-map G x lo hi col row F =
+      meetings G (λ i. f (x i)) (λ i. g (lo i)) (λ i. g (hi i)) (λ k. f (col k)) (λ k. g (row k))
+      (facts-map G x lo hi col row F)

@@ -40,14 +40,13 @@ last-other outs n = rw (ne-eqb outs 4 n) refl
 
 -- The columns of outgoing cables
 
-module _ (m : ℕ) (lower upper : ℕ → ℕ) where
-  pub columnAt-last : (p last : ℕ) → columnAt m lower upper p last 3 ≡ last
-  unfolding columnAt
-  columnAt-last p last = refl
+pub columnAt-last : (p last : ℕ) → columnAt p last 3 ≡ last
+unfolding columnAt
+columnAt-last p last = refl
 
-  pub columnAt-near : (p last j : ℕ) → (j ≡ 3 → ⊥) → columnAt m lower upper p last j ≡ p + j
-  unfolding columnAt
-  columnAt-near p last j n = rw (ne-eqb j 3 n) refl
+pub columnAt-near : (p last j : ℕ) → (j ≡ 3 → ⊥) → columnAt p last j ≡ p + j
+unfolding columnAt
+columnAt-near p last j n = rw (ne-eqb j 3 n) refl
 
 -- How far a column that was there moves
 

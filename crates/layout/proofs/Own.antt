@@ -10,7 +10,7 @@ use lib.Dec.{eqb}
 use borrow.Author.Tests.{eqb-true, eq-eqb}
 use Rattle.lists.specs.Select.{range, count}
 use Rattle.lists.proofs.Sums.{OneAt, count-each}
-use Rattle.layout.specs.Ranked.{Ranked}
+use Rattle.order.specs.Graph.{StGraph, size, lower, upper, Ranked}
 use Rattle.layout.specs.Columns.{moved}
 use Rattle.layout.proofs.Step.{cable, part, outs, ins, outPlace, inAt, took, lefts, rights, cable-kept, part-kept, part-opened, outPlace-one, inAt-comes, took-comes}
 use Rattle.lists.proofs.Increasing.{increasing-one}
@@ -18,30 +18,30 @@ use Rattle.layout.proofs.Moved.{moved-increasing, moved-at}
 use Rattle.layout.proofs.Invariant.{invariant}
 use Rattle.layout.proofs.Width.{outAt, outAt-goes, outPlace-outAt, ports-at, comes-in, goes-out, table, opened-last, opened-near, took-below}
 
-module _ (n m : ℕ) (lower upper : ℕ → ℕ) (H : Ranked n m lower upper) where
+module _ (G : StGraph) (H : Ranked G) where
   -- a cable's column once k ranks stand; the column that rank k takes, and its new columns left and right
   abbrev X : ℕ → ℕ → ℕ
-  X k i = cable m lower upper k i
+  X k i = cable G k i
 
   abbrev P : ℕ → ℕ
-  P k = took m lower upper k
+  P k = took G k
 
   abbrev A : ℕ → ℕ
-  A k = lefts m lower upper k
+  A k = lefts G k
 
   abbrev B : ℕ → ℕ
-  B k = rights m lower upper k
+  B k = rights G k
 
   -- the incoming cable whose column rank k takes
   pub takenCable : ℕ → ℕ
-  takenCable k = inAt m lower upper k ((ins m lower upper k - 1) / 2)
+  takenCable k = inAt G k ((ins G k - 1) / 2)
 
-  taken-comes : (k : ℕ) → 0 < k → k < n → (takenCable k < m) × (upper (takenCable k) ≡ k) × (took m lower upper k ≡ cable m lower upper k (takenCable k))
+  taken-comes : (k : ℕ) → 0 < k → k < G .parts → (takenCable k < size G) × (upper G (takenCable k) ≡ k) × (took G k ≡ cable G k (takenCable k))
   unfolding takenCable
   taken-comes k h l =
-      let p : 0 < ins m lower upper k = comes-in n m lower upper H k h l in
-      let c = inAt-comes m lower upper k ((ins m lower upper k - 1) / 2) (omega arith) in
-      (c .0, c .1, took-comes m lower upper k p)
+      let p : 0 < ins G k = comes-in G H k h l in
+      let c = inAt-comes G k ((ins G k - 1) / 2) (omega arith) in
+      (c .0, c .1, took-comes G k p)
 
   -- what moved to one column was in one column
   one-column : (k x y : ℕ) → moved (P k) (A k) (B k) x ≡ moved (P k) (A k) (B k) y → x ≡ y
@@ -49,102 +49,102 @@ module _ (n m : ℕ) (lower upper : ℕ → ℕ) (H : Ranked n m lower upper) wh
 
   -- In its part's column when the part is placed
 
-  pub lower-own : (k i : ℕ) → i < m → lower i ≡ k → (X (suc k) i ≡ part m lower upper (suc k) k) ↔ (outPlace m lower upper k i ≡ lefts m lower upper k)
-  lower-own k i h e = (go (ℕ-discrete (outPlace m lower upper k i) 3), back)
+  pub lower-own : (k i : ℕ) → i < size G → lower G i ≡ k → (X (suc k) i ≡ part G (suc k) k) ↔ (outPlace G k i ≡ lefts G k)
+  lower-own k i h e = (go (ℕ-discrete (outPlace G k i) 3), back)
     where
-      go : Dec (outPlace m lower upper k i ≡ 3) → X (suc k) i ≡ part m lower upper (suc k) k → outPlace m lower upper k i ≡ A k
-      go (yes c) q = absurd (omega (arith, opened-last n m lower upper H k i h e c, part-opened m lower upper k, took-below n m lower upper H k))
-      go (no c) q = omega (arith, opened-near n m lower upper H k i h e c, part-opened m lower upper k)
+      go : Dec (outPlace G k i ≡ 3) → X (suc k) i ≡ part G (suc k) k → outPlace G k i ≡ A k
+      go (yes c) q = absurd (omega (arith, opened-last G H k i h e c, part-opened G k, took-below G H k))
+      go (no c) q = omega (arith, opened-near G H k i h e c, part-opened G k)
 
-      back : outPlace m lower upper k i ≡ A k → X (suc k) i ≡ part m lower upper (suc k) k
-      back q = omega (arith, opened-near n m lower upper H k i h e (λ c. omega (arith, ports-at n m lower upper H k .one-left)), part-opened m lower upper k)
+      back : outPlace G k i ≡ A k → X (suc k) i ≡ part G (suc k) k
+      back q = omega (arith, opened-near G H k i h e (λ c. omega (arith, ports-at G H k .one-left)), part-opened G k)
 
-  pub upper-own : (k i : ℕ) → i < m → upper i ≡ k → (X (suc k) i ≡ part m lower upper (suc k) k) ↔ (i ≡ takenCable k)
+  pub upper-own : (k i : ℕ) → i < size G → upper G i ≡ k → (X (suc k) i ≡ part G (suc k) k) ↔ (i ≡ takenCable k)
   upper-own k i h e = (go (ℕ-discrete i (takenCable k)), back)
     where
-      rise : lower i < k
+      rise : lower G i < k
       rise = omega (arith, H .rises i h)
 
-      here : k < n
+      here : k < G .parts
       here = omega (arith, H .inside i h)
 
-      t : (takenCable k < m) × (upper (takenCable k) ≡ k) × (P k ≡ X k (takenCable k))
+      t : (takenCable k < size G) × (upper G (takenCable k) ≡ k) × (P k ≡ X k (takenCable k))
       t = taken-comes k (omega (arith, rise)) here
 
       kept : X (suc k) i ≡ moved (P k) (A k) (B k) (X k i)
-      kept = cable-kept m lower upper k i h (λ q. omega (arith, rise))
+      kept = cable-kept G k i h (λ q. omega (arith, rise))
 
-      stands : part m lower upper (suc k) k ≡ moved (P k) (A k) (B k) (P k)
-      stands = part-opened m lower upper k ∙ sym (moved-at (P k) (A k) (B k) (P k) refl)
+      stands : part G (suc k) k ≡ moved (P k) (A k) (B k) (P k)
+      stands = part-opened G k ∙ sym (moved-at (P k) (A k) (B k) (P k) refl)
 
-      go : Dec (i ≡ takenCable k) → X (suc k) i ≡ part m lower upper (suc k) k → i ≡ takenCable k
+      go : Dec (i ≡ takenCable k) → X (suc k) i ≡ part G (suc k) k → i ≡ takenCable k
       go (yes s) q = s
       go (no s) q =
-          absurd (invariant m lower upper n H k (omega (arith, here)) .apart i (takenCable k) h (t .0) s
+          absurd (invariant G H k (omega (arith, here)) .apart i (takenCable k) h (t .0) s
           rise (omega (arith, t .1, H .rises (takenCable k) (t .0))) (omega (arith, rise, t .1)) (omega (arith, t .1, H .rises (takenCable k) (t .0)))
           (one-column k (X k i) (P k) (sym kept ∙ q ∙ stands) ∙ t .2))
 
-      back : i ≡ takenCable k → X (suc k) i ≡ part m lower upper (suc k) k
+      back : i ≡ takenCable k → X (suc k) i ≡ part G (suc k) k
       back s = kept ∙ ap (λ (j : ℕ). moved (P k) (A k) (B k) (X k j)) s ∙ ap (moved (P k) (A k) (B k)) (sym (t .2)) ∙ sym stands
 
   -- What is in one column stays in one column, and what is not stays apart.
   pub own-kept :
-      (k l i j : ℕ) → i < m → lower i < k → j < k → k ≤ l
-      → (cable m lower upper k i ≡ part m lower upper k j) ↔ (cable m lower upper l i ≡ part m lower upper l j)
+      (k l i j : ℕ) → i < size G → lower G i < k → j < k → k ≤ l
+      → (cable G k i ≡ part G k j) ↔ (cable G l i ≡ part G l j)
   own-kept k zero i j h o g u = absurd (omega arith)
   own-kept k (suc l) i j h o g u = go (ℕ-discrete k (suc l)) (λ v. own-kept k l i j h o g v)
     where
-      kept : lower i < l → X (suc l) i ≡ moved (P l) (A l) (B l) (X l i)
-      kept v = cable-kept m lower upper l i h (λ q. omega arith)
+      kept : lower G i < l → X (suc l) i ≡ moved (P l) (A l) (B l) (X l i)
+      kept v = cable-kept G l i h (λ q. omega arith)
 
       go :
-          Dec (k ≡ suc l) → (k ≤ l → (X k i ≡ part m lower upper k j) ↔ (X l i ≡ part m lower upper l j))
-          → (X k i ≡ part m lower upper k j) ↔ (X (suc l) i ≡ part m lower upper (suc l) j)
-      go (yes e) below = (λ q. subst (λ (z : ℕ). X z i ≡ part m lower upper z j) e q, λ q. subst (λ (z : ℕ). X z i ≡ part m lower upper z j) (sym e) q)
+          Dec (k ≡ suc l) → (k ≤ l → (X k i ≡ part G k j) ↔ (X l i ≡ part G l j))
+          → (X k i ≡ part G k j) ↔ (X (suc l) i ≡ part G (suc l) j)
+      go (yes e) below = (λ q. subst (λ (z : ℕ). X z i ≡ part G z j) e q, λ q. subst (λ (z : ℕ). X z i ≡ part G z j) (sym e) q)
       go (no e) below =
           let b = below (omega arith) in
           let c = kept (omega arith) in
-          let d = part-kept m lower upper l j (omega arith) in
-          (λ q. c ∙ ap (moved (P l) (A l) (B l)) (b .0 q) ∙ sym d, λ q. b .1 (one-column l (X l i) (part m lower upper l j) (sym c ∙ q ∙ d)))
+          let d = part-kept G l j (omega arith) in
+          (λ q. c ∙ ap (moved (P l) (A l) (B l)) (b .0 q) ∙ sym d, λ q. b .1 (one-column l (X l i) (part G l j) (sym c ∙ q ∙ d)))
 
   -- Once all ranks stand
 
-  pub lower-own-all : (i : ℕ) → i < m → (X n i ≡ part m lower upper n (lower i)) ↔ (outPlace m lower upper (lower i) i ≡ lefts m lower upper (lower i))
+  pub lower-own-all : (i : ℕ) → i < size G → (X (G .parts) i ≡ part G (G .parts) (lower G i)) ↔ (outPlace G (lower G i) i ≡ lefts G (lower G i))
   lower-own-all i h =
-      let f = own-kept (suc (lower i)) n i (lower i) h (omega arith) (omega arith) (omega (arith, H .rises i h, H .inside i h)) in
-      let g = lower-own (lower i) i h refl in
+      let f = own-kept (suc (lower G i)) (G .parts) i (lower G i) h (omega arith) (omega arith) (omega (arith, H .rises i h, H .inside i h)) in
+      let g = lower-own (lower G i) i h refl in
       (λ q. g .0 (f .1 q), λ q. f .0 (g .1 q))
 
-  pub upper-own-all : (i : ℕ) → i < m → (X n i ≡ part m lower upper n (upper i)) ↔ (i ≡ takenCable (upper i))
+  pub upper-own-all : (i : ℕ) → i < size G → (X (G .parts) i ≡ part G (G .parts) (upper G i)) ↔ (i ≡ takenCable (upper G i))
   upper-own-all i h =
-      let f = own-kept (suc (upper i)) n i (upper i) h (omega (arith, H .rises i h)) (omega arith) (omega (arith, H .inside i h)) in
-      let g = upper-own (upper i) i h refl in
+      let f = own-kept (suc (upper G i)) (G .parts) i (upper G i) h (omega (arith, H .rises i h)) (omega arith) (omega (arith, H .inside i h)) in
+      let g = upper-own (upper G i) i h refl in
       (λ q. g .0 (f .1 q), λ q. f .0 (g .1 q))
 
   -- Of each rank that has outgoing cables exactly one of them stands in its column, and of each that has incoming cables exactly one of those.
 
   ownLower : ℕ → Bool
-  ownLower i = eqb (cable m lower upper n i) (part m lower upper n (lower i))
+  ownLower i = eqb (cable G (G .parts) i) (part G (G .parts) (lower G i))
 
   ownUpper : ℕ → Bool
-  ownUpper i = eqb (cable m lower upper n i) (part m lower upper n (upper i))
+  ownUpper i = eqb (cable G (G .parts) i) (part G (G .parts) (upper G i))
 
-  one-lower : (k : ℕ) → suc k < n → OneAt ownLower lower m k
+  one-lower : (k : ℕ) → suc k < G .parts → OneAt ownLower (lower G) (size G) k
   unfolding ownLower
   one-lower k h =
-      let l : lefts m lower upper k < outs m lower upper k = omega (arith, table n m lower upper H k (goes-out n m lower upper H k h)) in
-      let g = outAt-goes m lower upper k (A k) l in
+      let l : lefts G k < outs G k = omega (arith, table G H k (goes-out G H k h)) in
+      let g = outAt-goes G k (A k) l in
       record {
-        one = outAt m lower upper k (A k);
+        one = outAt G k (A k);
         below = g .0;
         keyed = g .1;
-        passes = eq-eqb _ _ (lower-own-all (outAt m lower upper k (A k)) (g .0) .1 (rw (g .1) (outPlace-outAt m lower upper k (A k) l)));
+        passes = eq-eqb _ _ (lower-own-all (outAt G k (A k)) (g .0) .1 (rw (g .1) (outPlace-outAt G k (A k) l)));
         only = λ i u e q.
-            let r : outPlace m lower upper k i ≡ A k = subst (λ (z : ℕ). outPlace m lower upper z i ≡ A z) e (lower-own-all i u .0 (eqb-true _ _ q)) in
-            outPlace-one m lower upper k i (outAt m lower upper k (A k)) u (g .0) e (g .1) (r ∙ sym (outPlace-outAt m lower upper k (A k) l));
+            let r : outPlace G k i ≡ A k = subst (λ (z : ℕ). outPlace G z i ≡ A z) e (lower-own-all i u .0 (eqb-true _ _ q)) in
+            outPlace-one G k i (outAt G k (A k)) u (g .0) e (g .1) (r ∙ sym (outPlace-outAt G k (A k) l));
       }
 
-  one-upper : (k : ℕ) → suc k < n → OneAt ownUpper (λ i. upper i - 1) m k
+  one-upper : (k : ℕ) → suc k < G .parts → OneAt ownUpper (λ i. upper G i - 1) (size G) k
   unfolding ownUpper
   one-upper k h =
       let t = taken-comes (suc k) (omega arith) h in
@@ -156,12 +156,12 @@ module _ (n m : ℕ) (lower upper : ℕ → ℕ) (H : Ranked n m lower upper) wh
         only = λ i u e q. upper-own-all i u .0 (eqb-true _ _ q) ∙ ap takenCable (omega (arith, H .rises i u));
       }
 
-  pub lower-owns : 0 < n → count (λ i. eqb (cable m lower upper n i) (part m lower upper n (lower i))) (range m) + 1 ≡ n
+  pub lower-owns : 0 < G .parts → count (λ i. eqb (cable G (G .parts) i) (part G (G .parts) (lower G i))) (range (size G)) + 1 ≡ G .parts
   unfolding ownLower
   lower-owns h =
-      omega (arith, count-each ownLower lower m (n - 1) (λ i l q. omega (arith, H .rises i l, H .inside i l)) (λ k l. one-lower k (omega arith)))
+      omega (arith, count-each ownLower (lower G) (size G) (G .parts - 1) (λ i l q. omega (arith, H .rises i l, H .inside i l)) (λ k l. one-lower k (omega arith)))
 
-  pub upper-owns : 0 < n → count (λ i. eqb (cable m lower upper n i) (part m lower upper n (upper i))) (range m) + 1 ≡ n
+  pub upper-owns : 0 < G .parts → count (λ i. eqb (cable G (G .parts) i) (part G (G .parts) (upper G i))) (range (size G)) + 1 ≡ G .parts
   unfolding ownUpper
   upper-owns h =
-      omega (arith, count-each ownUpper (λ i. upper i - 1) m (n - 1) (λ i l q. omega (arith, H .rises i l, H .inside i l)) (λ k l. one-upper k (omega arith)))
+      omega (arith, count-each ownUpper (λ i. upper G i - 1) (size G) (G .parts - 1) (λ i l q. omega (arith, H .rises i l, H .inside i l)) (λ k l. one-upper k (omega arith)))

@@ -6,9 +6,11 @@ use native.Mathlib.Decide.{decLt}
 use mathlib.Core.Path.{_≡_, refl, sym, _∙_, ap}
 use mathlib.Core.Logic.{_⊎_, inl, inr}
 use mathlib.Core.List.{List}
-use Rattle.layout.specs.Points.{Spot, Course}
-use Rattle.layout.specs.Lines.{IsRun, OnLine, OnLevel, OnUpright, NoPoint}
-use Rattle.layout.proofs.Segments.{spot-path, Proper, turn, First, Last, Drawn}
+use Rattle.drawing.specs.Spots.{Spot}
+use Rattle.layout.specs.Points.{Course}
+use Rattle.drawing.specs.Lines.{IsRun, OnLine, OnLevel, OnUpright, NoPoint}
+use Rattle.drawing.proofs.Spots.{spot-path}
+use Rattle.layout.proofs.Segments.{Proper, turn, First, Last, Drawn}
 use Rattle.layout.proofs.Line.{Horizontal, Segment, starts-at, ends-at, run-segment, segment-run}
 
 pub record Inner (c : Course) (s : Spot) : Type 0 where

@@ -10,11 +10,10 @@ use mathlib.Core.List.{List, [], _∷_}
 use lib.ListN.{length}
 use lib.Dec.{eqb}
 use borrow.Author.Tests.{eq-eqb, ne-eqb}
-use Rattle.layout.specs.Points.{Spot, Course, sameSpot, turns, dropRepeats, pointsOf}
-use Rattle.layout.specs.Lines.{point}
-
-pub spot-path : {p q : Spot} → p .x ≡ q .x → p .y ≡ q .y → p ≡ q
-spot-path e f = λ i. record { x = e i; y = f i }
+use Rattle.drawing.specs.Spots.{Spot, sameSpot}
+use Rattle.layout.specs.Points.{Course, turns, dropRepeats, pointsOf}
+use Rattle.drawing.specs.Lines.{point}
+use Rattle.drawing.proofs.Spots.{spot-path, same-spot, other-column, other-row}
 
 -- A course whose lanes enclose its parts' rows, and that has a lane beyond a part's row only where its column is not the part's.
 pub record Proper (c : Course) : Type 0 where
@@ -76,18 +75,6 @@ kept-cons c b e ps K = record { size = omega (arith, K .size); at = at }
     at : (k : ℕ) → k < suc (length ps) → point (turn c b ∷ ps) k ≡ turn c (b + k)
     at zero l = rw add-zero refl
     at (suc k) l = let q : b + suc k ≡ suc b + k = omega arith in rw q (K .at k (omega arith))
-
-pub same-spot : (p q : Spot) → p .x ≡ q .x → p .y ≡ q .y → sameSpot p q ≡ true
-unfolding sameSpot
-same-spot p q e f = rw (eq-eqb (p .x) (q .x) e, eq-eqb (p .y) (q .y) f)
-
-other-column : (p q : Spot) → (p .x ≡ q .x → ⊥) → sameSpot p q ≡ false
-unfolding sameSpot
-other-column p q h = rw (ne-eqb (p .x) (q .x) h)
-
-other-row : (p q : Spot) → (p .y ≡ q .y → ⊥) → sameSpot p q ≡ false
-unfolding sameSpot
-other-row p q h = rw (ne-eqb (p .y) (q .y) h) (and-false (eqb (p .x) (q .x)))
 
 upper-turns :
     (c : Course) → Proper c → (e : ℕ) × Kept c 3 e (dropRepeats (turn c 3 ∷ turn c 4 ∷ turn c 5 ∷ [])) × Last c e

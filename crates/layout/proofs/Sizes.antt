@@ -9,13 +9,14 @@ use native.Mathlib.Omega.{arith}
 use native.Mathlib.Decide.{decLt, ℕ-discrete}
 use lib.Dec.{eqb, ltb}
 use lib.ListN.{length, getD}
-use borrow.Author.Tests.{lt-ltb, le-ltb}
+use borrow.Author.Tests.{eqb-true, eq-eqb, lt-ltb, le-ltb}
 use Rattle.lists.specs.Select.{range, tabulate, count, sum, oneIf}
 use Rattle.lists.proofs.Tests.{oneIf-le}
 use Rattle.lists.proofs.Sums.{count-not, count-either, sum-ext, sum-add, sum-oneIf}
-use Rattle.layout.specs.Ranked.{Ranked}
-use Rattle.layout.specs.Columns.{columns}
-use Rattle.layout.specs.Points.{Spot, Course, turns, pointsOf, cornersOf, bottomRows, topRows, row, isBottom, isTop, partSpot, course, spotOf, courseOf}
+use Rattle.order.specs.Graph.{StGraph, size, lower, upper, Ranked}
+use Rattle.layout.specs.Columns.{bottomLine, topLine, columns}
+use Rattle.drawing.specs.Spots.{Spot}
+use Rattle.layout.specs.Points.{Course, turns, pointsOf, cornersOf, bottomRows, topRows, row, partSpot, course, rankSpot, courseOf}
 use Rattle.layout.proofs.Step.{cable, part, width}
 use Rattle.layout.proofs.Width.{width-all, cable-below, part-below, reached}
 use Rattle.layout.proofs.Own.{lower-owns, upper-owns}
@@ -59,207 +60,207 @@ four-counts p q b t m =
       sum-oneIf t m,
     )
 
-module _ (n m : ℕ) (lower upper : ℕ → ℕ) (H : Ranked n m lower upper) where
+module _ (G : StGraph) (H : Ranked G) where
   -- Every stored column is below the count, that of a cable that is not opened too.
 
-  pub cable-column-below : (k i : ℕ) → getD (columns m lower upper k .cables) i 0 < columns m lower upper k .count
+  pub cable-column-below : (k i : ℕ) → getD (columns G k .cables) i 0 < columns G k .count
   unfolding cable width
-  cable-column-below k i = cable-below n m lower upper H k i
+  cable-column-below k i = cable-below G H k i
 
-  pub part-column-below : (k j : ℕ) → j < k → getD (columns m lower upper k .parts) j 0 < columns m lower upper k .count
+  pub part-column-below : (k j : ℕ) → j < k → getD (columns G k .parts) j 0 < columns G k .count
   unfolding part width
-  part-column-below k j h = part-below n m lower upper H k j h
+  part-column-below k j h = part-below G H k j h
 
   -- Once s stands, every column is the column of a cable that was opened.
-  pub column-held : 2 ≤ n → (k c : ℕ) → 0 < k → c < columns m lower upper k .count → (i : ℕ) × (i < m) × (lower i < k) × (getD (columns m lower upper k .cables) i 0 ≡ c)
+  pub column-held : 2 ≤ G .parts → (k c : ℕ) → 0 < k → c < columns G k .count → (i : ℕ) × (i < size G) × (lower G i < k) × (getD (columns G k .cables) i 0 ≡ c)
   unfolding cable width
   column-held two zero c z h = absurd (omega arith)
-  column-held two (suc k) c z h = reached n m lower upper H two k c h
+  column-held two (suc k) c z h = reached G H two k c h
 
   -- The lanes of a course
 
-  low-le : (i : ℕ) → courseOf n m lower upper i .low ≤ row n m lower upper (lower i)
+  low-le : (i : ℕ) → courseOf G i .low ≤ row G (lower G i)
   unfolding courseOf course
-  low-le i = lane-le (isBottom n m lower upper i) (row n m lower upper (lower i))
+  low-le i = lane-le (eqb i (bottomLine G)) (row G (lower G i))
 
-  high-ge : (i : ℕ) → i < m → row n m lower upper (upper i) ≤ courseOf n m lower upper i .high
+  high-ge : (i : ℕ) → i < size G → row G (upper G i) ≤ courseOf G i .high
   unfolding courseOf course row
-  high-ge i h = lane-ge (isTop n m lower upper (columns m lower upper n .cables) i) (row n m lower upper n) (row n m lower upper (upper i)) (omega (arith, H .inside i h))
+  high-ge i h = lane-ge (eqb i (topLine G (columns G (G .parts) .cables))) (row G (G .parts)) (row G (upper G i)) (omega (arith, H .inside i h))
 
-  pub rising : (i : ℕ) → i < m → courseOf n m lower upper i .low < courseOf n m lower upper i .high
+  pub rising : (i : ℕ) → i < size G → courseOf G i .low < courseOf G i .high
   unfolding row
   rising i h = omega (arith, low-le i, high-ge i h, H .rises i h)
 
   -- The corners of one cable: one where its own column is not its lower part's, one where it is not its upper part's, one for the bottom connection,
   -- one for the top connection.
   pub corners-one :
-      (i : ℕ) → i < m
-      → length (cornersOf (courseOf n m lower upper i))
-      ≡ differs (getD (columns m lower upper n .cables) i 0) (getD (columns m lower upper n .parts) (lower i) 0)
-      + differs (getD (columns m lower upper n .cables) i 0) (getD (columns m lower upper n .parts) (upper i) 0)
-      + oneIf (isBottom n m lower upper i)
-      + oneIf (isTop n m lower upper (columns m lower upper n .cables) i)
+      (i : ℕ) → i < size G
+      → length (cornersOf (courseOf G i))
+      ≡ differs (getD (columns G (G .parts) .cables) i 0) (getD (columns G (G .parts) .parts) (lower G i) 0)
+      + differs (getD (columns G (G .parts) .cables) i 0) (getD (columns G (G .parts) .parts) (upper G i) 0)
+      + oneIf (eqb i (bottomLine G))
+      + oneIf (eqb i (topLine G (columns G (G .parts) .cables)))
   unfolding courseOf course partSpot row
   corners-one i h =
-      let b = differs-lane (isBottom n m lower upper i) 0 (row n m lower upper (lower i)) (λ e q. omega (arith, bottom-row n m lower upper H i h e)) in
-      let t = differs-lane (isTop n m lower upper (columns m lower upper n .cables) i) (row n m lower upper n) (row n m lower upper (upper i)) (λ e q. omega (arith, H .inside i h)) in
-      omega (arith, length-corners (courseOf n m lower upper i) (λ e. omega (arith, rising i h)), b, t)
+      let b = differs-lane (eqb i (bottomLine G)) 0 (row G (lower G i)) (λ e q. omega (arith, bottom-row G H (omega (arith, eqb-true i (bottomLine G) e)))) in
+      let t = differs-lane (eqb i (topLine G (columns G (G .parts) .cables))) (row G (G .parts)) (row G (upper G i)) (λ e q. omega (arith, H .inside i h)) in
+      omega (arith, length-corners (courseOf G i) (λ e. omega (arith, rising i h)), b, t)
 
   corners-le :
-      (i : ℕ) → i < m
-      → length (cornersOf (courseOf n m lower upper i)) ≤ 2 + (oneIf (isBottom n m lower upper i) + oneIf (isTop n m lower upper (columns m lower upper n .cables) i))
+      (i : ℕ) → i < size G
+      → length (cornersOf (courseOf G i)) ≤ 2 + (oneIf (eqb i (bottomLine G)) + oneIf (eqb i (topLine G (columns G (G .parts) .cables))))
   corners-le i h =
-      let u = oneIf-le (not (eqb (getD (columns m lower upper n .cables) i 0) (getD (columns m lower upper n .parts) (lower i) 0))) in
-      let v = oneIf-le (not (eqb (getD (columns m lower upper n .cables) i 0) (getD (columns m lower upper n .parts) (upper i) 0))) in
+      let u = oneIf-le (not (eqb (getD (columns G (G .parts) .cables) i 0) (getD (columns G (G .parts) .parts) (lower G i) 0))) in
+      let v = oneIf-le (not (eqb (getD (columns G (G .parts) .cables) i 0) (getD (columns G (G .parts) .parts) (upper G i) 0))) in
       omega (arith, corners-one i h)
 
-  pub corners-four : (i : ℕ) → i < m → length (cornersOf (courseOf n m lower upper i)) ≤ 4
+  pub corners-four : (i : ℕ) → i < size G → length (cornersOf (courseOf G i)) ≤ 4
   corners-four i h =
-      omega (arith, corners-le i h, oneIf-le (isBottom n m lower upper i), oneIf-le (isTop n m lower upper (columns m lower upper n .cables) i))
+      omega (arith, corners-le i h, oneIf-le (eqb i (bottomLine G)), oneIf-le (eqb i (topLine G (columns G (G .parts) .cables))))
 
   -- more than two only at a bottom or a top connection
   pub corners-many :
-      (i : ℕ) → i < m → 2 < length (cornersOf (courseOf n m lower upper i))
-      → (isBottom n m lower upper i ≡ true) ⊎ (isTop n m lower upper (columns m lower upper n .cables) i ≡ true)
-  corners-many i h l = one-of (isBottom n m lower upper i) (isTop n m lower upper (columns m lower upper n .cables) i) (omega (arith, corners-le i h))
+      (i : ℕ) → i < size G → 2 < length (cornersOf (courseOf G i))
+      → (eqb i (bottomLine G) ≡ true) ⊎ (eqb i (topLine G (columns G (G .parts) .cables)) ≡ true)
+  corners-many i h l = one-of (eqb i (bottomLine G)) (eqb i (topLine G (columns G (G .parts) .cables))) (omega (arith, corners-le i h))
 
   -- at most two cables have more than two corners
-  pub corners-many-count : count (λ i. ltb 2 (length (cornersOf (courseOf n m lower upper i)))) (range m) ≤ 2
+  pub corners-many-count : count (λ i. ltb 2 (length (cornersOf (courseOf G i)))) (range (size G)) ≤ 2
   corners-many-count =
       omega (
         arith,
-        count-either (λ i. ltb 2 (length (cornersOf (courseOf n m lower upper i)))) (isBottom n m lower upper) (isTop n m lower upper (columns m lower upper n .cables)) m
-            (λ i h. over-two (length (cornersOf (courseOf n m lower upper i))) _ (corners-le i h)),
-        bottom-count n m lower upper H,
-        top-count n m lower upper H (columns m lower upper n .cables),
-        bottomRows-le n m lower upper H,
-        topRows-le n m lower upper H,
+        count-either (λ i. ltb 2 (length (cornersOf (courseOf G i)))) (λ i. eqb i (bottomLine G)) (λ i. eqb i (topLine G (columns G (G .parts) .cables))) (size G)
+            (λ i h. over-two (length (cornersOf (courseOf G i))) _ (corners-le i h)),
+        bottom-count G H,
+        top-count G H (columns G (G .parts) .cables),
+        bottomRows-le G H,
+        topRows-le G H,
       )
 
   -- Every spot is inside the sheet.
 
   abbrev Within : Spot → Type 0
-  Within s = (s .x < columns m lower upper n .count) × (s .y < n + bottomRows n m lower upper + topRows n m lower upper)
+  Within s = (s .x < columns G (G .parts) .count) × (s .y < G .parts + bottomRows G + topRows G)
 
   pub spots-within :
-      (k : ℕ) → k < n
-      → (spotOf n m lower upper k .x < columns m lower upper n .count) × (spotOf n m lower upper k .y < n + bottomRows n m lower upper + topRows n m lower upper)
-  unfolding spotOf partSpot row
-  spots-within k h = (part-column-below n k h, omega arith)
+      (k : ℕ) → k < G .parts
+      → (rankSpot G k .x < columns G (G .parts) .count) × (rankSpot G k .y < G .parts + bottomRows G + topRows G)
+  unfolding rankSpot partSpot row
+  spots-within k h = (part-column-below (G .parts) k h, omega arith)
 
-  high-below : (i : ℕ) → i < m → courseOf n m lower upper i .high < n + bottomRows n m lower upper + topRows n m lower upper
+  high-below : (i : ℕ) → i < size G → courseOf G i .high < G .parts + bottomRows G + topRows G
   unfolding courseOf course row
-  high-below i h = go (isTop n m lower upper (columns m lower upper n .cables) i) refl
+  high-below i h = go (eqb i (topLine G (columns G (G .parts) .cables))) refl
     where
       go :
-          (b : Bool) → isTop n m lower upper (columns m lower upper n .cables) i ≡ b
-          → cond b (row n m lower upper n) (row n m lower upper (upper i)) < n + bottomRows n m lower upper + topRows n m lower upper
-      go true e = omega (arith, top-row n m lower upper H (columns m lower upper n .cables) i h e)
+          (b : Bool) → eqb i (topLine G (columns G (G .parts) .cables)) ≡ b
+          → cond b (row G (G .parts)) (row G (upper G i)) < G .parts + bottomRows G + topRows G
+      go true e = omega (arith, top-row G H (columns G (G .parts) .cables) (omega (arith, eqb-true i (topLine G (columns G (G .parts) .cables)) e)))
       go false e = omega (arith, H .inside i h)
 
   pub points-within :
-      (i : ℕ) → i < m → (s : Spot) → List·Memᴰ s (pointsOf (courseOf n m lower upper i))
-      → (s .x < columns m lower upper n .count) × (s .y < n + bottomRows n m lower upper + topRows n m lower upper)
-  unfolding courseOf course spotOf
+      (i : ℕ) → i < size G → (s : Spot) → List·Memᴰ s (pointsOf (courseOf G i))
+      → (s .x < columns G (G .parts) .count) × (s .y < G .parts + bottomRows G + topRows G)
+  unfolding courseOf course rankSpot
   points-within i h s g =
-      let c : Course = courseOf n m lower upper i in
-      let f : Within (c .from) = spots-within (lower i) (omega (arith, H .rises i h, H .inside i h)) in
-      let t : Within (c .to) = spots-within (upper i) (H .inside i h) in
-      let x : c .column < columns m lower upper n .count = cable-column-below n i in
-      let u : c .high < n + bottomRows n m lower upper + topRows n m lower upper = high-below i h in
-      let l : c .low < n + bottomRows n m lower upper + topRows n m lower upper = omega (arith, rising i h) in
+      let c : Course = courseOf G i in
+      let f : Within (c .from) = spots-within (lower G i) (omega (arith, H .rises i h, H .inside i h)) in
+      let t : Within (c .to) = spots-within (upper G i) (H .inside i h) in
+      let x : c .column < columns G (G .parts) .count = cable-column-below (G .parts) i in
+      let u : c .high < G .parts + bottomRows G + topRows G = high-below i h in
+      let l : c .low < G .parts + bottomRows G + topRows G = omega (arith, rising i h) in
       points-all Within c f (f .0, l) (x, l) (x, u) (t .0, u) t s g
 
   pub corners-within :
-      (i : ℕ) → i < m → (s : Spot) → List·Memᴰ s (cornersOf (courseOf n m lower upper i))
-      → (s .x < columns m lower upper n .count) × (s .y < n + bottomRows n m lower upper + topRows n m lower upper)
-  corners-within i h s g = points-within i h s (corners-points (courseOf n m lower upper i) (λ e. omega (arith, rising i h)) g)
+      (i : ℕ) → i < size G → (s : Spot) → List·Memᴰ s (cornersOf (courseOf G i))
+      → (s .x < columns G (G .parts) .count) × (s .y < G .parts + bottomRows G + topRows G)
+  corners-within i h s g = points-within i h s (corners-points (courseOf G i) (λ e. omega (arith, rising i h)) g)
 
   -- a point is a part's spot or a corner
   abbrev Found : (Spot → ℕ) → ℕ → Type 0
   Found f v =
-      ((k : ℕ) × (k < n) × (f (spotOf n m lower upper k) ≡ v))
-      ⊎ ((i : ℕ) × (s : Spot) × (i < m) × List·Memᴰ s (cornersOf (courseOf n m lower upper i)) × (f s ≡ v))
+      ((k : ℕ) × (k < G .parts) × (f (rankSpot G k) ≡ v))
+      ⊎ ((i : ℕ) × (s : Spot) × (i < size G) × List·Memᴰ s (cornersOf (courseOf G i)) × (f s ≡ v))
 
-  found : (f : Spot → ℕ) (v i : ℕ) (s : Spot) → i < m → List·Memᴰ s (turns (courseOf n m lower upper i)) → f s ≡ v → Found f v
-  unfolding courseOf course spotOf
+  found : (f : Spot → ℕ) (v i : ℕ) (s : Spot) → i < size G → List·Memᴰ s (turns (courseOf G i)) → f s ≡ v → Found f v
+  unfolding courseOf course rankSpot
   found f v i s h g e = first (List·Memᴰ·cases-cons (subst (λ (l : List Spot). List·Memᴰ s l) (points-split c (λ q. omega (arith, rising i h))) (turns-points c g)))
     where
       c : Course
-      c = courseOf n m lower upper i
+      c = courseOf G i
 
       last : List·Memᴰ s (cornersOf c) ⊎ List·Memᴰ s (c .to ∷ []) → Found f v
       last (inl k) = inr (i, s, h, k, e)
-      last (inr k) = inl (upper i, H .inside i h, sym (ap f (List·Memᴰ·eq-of-singleton k)) ∙ e)
+      last (inr k) = inl (upper G i, H .inside i h, sym (ap f (List·Memᴰ·eq-of-singleton k)) ∙ e)
 
       first : (s ≡ c .from) ⊎ List·Memᴰ s (cornersOf c ++ c .to ∷ []) → Found f v
-      first (inl q) = inl (lower i, omega (arith, H .rises i h, H .inside i h), sym (ap f q) ∙ e)
+      first (inl q) = inl (lower G i, omega (arith, H .rises i h, H .inside i h), sym (ap f q) ∙ e)
       first (inr k) = last (List·Memᴰ·append-cases (cornersOf c) k)
 
-  module _ (two : 2 ≤ n) where
+  module _ (two : 2 ≤ G .parts) where
     -- 'm - n + 1 as width': the count of columns is one more
-    pub columns-count : columns m lower upper n .count + n ≡ m + 2
+    pub columns-count : columns G (G .parts) .count + G .parts ≡ size G + 2
     unfolding width
-    columns-count = width-all n m lower upper H (omega arith)
+    columns-count = width-all G H (omega arith)
 
-    pub width-reached : (i : ℕ) × (i < m) × (suc (getD (columns m lower upper n .cables) i 0) ≡ columns m lower upper n .count)
+    pub width-reached : (i : ℕ) × (i < size G) × (suc (getD (columns G (G .parts) .cables) i 0) ≡ columns G (G .parts) .count)
     width-reached =
-        let z : 0 < columns m lower upper n .count = omega (arith, cable-column-below n 0) in
-        let r = column-held two n (columns m lower upper n .count - 1) (omega arith) (omega arith) in
+        let z : 0 < columns G (G .parts) .count = omega (arith, cable-column-below (G .parts) 0) in
+        let r = column-held two (G .parts) (columns G (G .parts) .count - 1) (omega arith) (omega arith) in
         (r .0, r .1, omega (arith, r .3))
 
     -- n - 1 cables stand in their lower part's column, and n - 1 in their upper part's
 
-    pub lower-count : count (λ i. eqb (getD (columns m lower upper n .cables) i 0) (getD (columns m lower upper n .parts) (lower i) 0)) (range m) + 1 ≡ n
+    pub lower-count : count (λ i. eqb (getD (columns G (G .parts) .cables) i 0) (getD (columns G (G .parts) .parts) (lower G i) 0)) (range (size G)) + 1 ≡ G .parts
     unfolding cable part
-    lower-count = lower-owns n m lower upper H (omega arith)
+    lower-count = lower-owns G H (omega arith)
 
-    pub upper-count : count (λ i. eqb (getD (columns m lower upper n .cables) i 0) (getD (columns m lower upper n .parts) (upper i) 0)) (range m) + 1 ≡ n
+    pub upper-count : count (λ i. eqb (getD (columns G (G .parts) .cables) i 0) (getD (columns G (G .parts) .parts) (upper G i) 0)) (range (size G)) + 1 ≡ G .parts
     unfolding cable part
-    upper-count = upper-owns n m lower upper H (omega arith)
+    upper-count = upper-owns G H (omega arith)
 
     -- '2m - 2n + 2 + d + e corners'
     pub corners-sum :
-        sum (tabulate m (λ i. length (cornersOf (courseOf n m lower upper i)))) + 2 * n ≡ 2 * m + 2 + bottomRows n m lower upper + topRows n m lower upper
+        sum (tabulate (size G) (λ i. length (cornersOf (courseOf G i)))) + 2 * G .parts ≡ 2 * size G + 2 + bottomRows G + topRows G
     corners-sum =
-        let x : ℕ → ℕ = λ i. getD (columns m lower upper n .cables) i 0 in
-        let p : ℕ → Bool = λ i. eqb (x i) (getD (columns m lower upper n .parts) (lower i) 0) in
-        let q : ℕ → Bool = λ i. eqb (x i) (getD (columns m lower upper n .parts) (upper i) 0) in
-        let b : ℕ → Bool = isBottom n m lower upper in
-        let t : ℕ → Bool = isTop n m lower upper (columns m lower upper n .cables) in
-        let e : sum (tabulate m (λ i. length (cornersOf (courseOf n m lower upper i)))) ≡ sum (tabulate m (λ i. oneIf (not (p i)) + oneIf (not (q i)) + oneIf (b i) + oneIf (t i))) = sum-ext _ _ m corners-one in
+        let x : ℕ → ℕ = λ i. getD (columns G (G .parts) .cables) i 0 in
+        let p : ℕ → Bool = λ i. eqb (x i) (getD (columns G (G .parts) .parts) (lower G i) 0) in
+        let q : ℕ → Bool = λ i. eqb (x i) (getD (columns G (G .parts) .parts) (upper G i) 0) in
+        let b : ℕ → Bool = λ i. eqb i (bottomLine G) in
+        let t : ℕ → Bool = λ i. eqb i (topLine G (columns G (G .parts) .cables)) in
+        let e : sum (tabulate (size G) (λ i. length (cornersOf (courseOf G i)))) ≡ sum (tabulate (size G) (λ i. oneIf (not (p i)) + oneIf (not (q i)) + oneIf (b i) + oneIf (t i))) = sum-ext _ _ (size G) corners-one in
         omega (
           arith,
           e,
-          four-counts (λ i. not (p i)) (λ i. not (q i)) b t m,
-          count-not p m,
-          count-not q m,
+          four-counts (λ i. not (p i)) (λ i. not (q i)) b t (size G),
+          count-not p (size G),
+          count-not q (size G),
           lower-count,
           upper-count,
-          bottom-count n m lower upper H,
-          top-count n m lower upper H (columns m lower upper n .cables),
+          bottom-count G H,
+          top-count G H (columns G (G .parts) .cables),
         )
 
     -- the greatest x and the greatest y are those of a part or of a corner
     pub width-spot :
-        ((k : ℕ) × (k < n) × (suc (spotOf n m lower upper k .x) ≡ columns m lower upper n .count))
-        ⊎ ((i : ℕ) × (s : Spot) × (i < m) × List·Memᴰ s (cornersOf (courseOf n m lower upper i)) × (suc (s .x) ≡ columns m lower upper n .count))
+        ((k : ℕ) × (k < G .parts) × (suc (rankSpot G k .x) ≡ columns G (G .parts) .count))
+        ⊎ ((i : ℕ) × (s : Spot) × (i < size G) × List·Memᴰ s (cornersOf (courseOf G i)) × (suc (s .x) ≡ columns G (G .parts) .count))
     unfolding courseOf course turns
     width-spot =
         let r = width-reached in
-        let c : Course = courseOf n m lower upper (r .0) in
+        let c : Course = courseOf G (r .0) in
         found (λ s. suc (s .x)) _ (r .0) (record { x = c .column; y = c .low }) (r .1) (List·Memᴰ·tail (List·Memᴰ·tail (List·Memᴰ·head refl))) (r .2)
 
     pub height-spot :
-        ((k : ℕ) × (k < n) × (suc (spotOf n m lower upper k .y) ≡ n + bottomRows n m lower upper + topRows n m lower upper))
-        ⊎ ((i : ℕ) × (s : Spot) × (i < m) × List·Memᴰ s (cornersOf (courseOf n m lower upper i)) × (suc (s .y) ≡ n + bottomRows n m lower upper + topRows n m lower upper))
-    unfolding courseOf course turns spotOf partSpot row
-    height-spot = go (ℕ-discrete (topRows n m lower upper) 1)
+        ((k : ℕ) × (k < G .parts) × (suc (rankSpot G k .y) ≡ G .parts + bottomRows G + topRows G))
+        ⊎ ((i : ℕ) × (s : Spot) × (i < size G) × List·Memᴰ s (cornersOf (courseOf G i)) × (suc (s .y) ≡ G .parts + bottomRows G + topRows G))
+    unfolding courseOf course turns rankSpot partSpot row
+    height-spot = go (ℕ-discrete (topRows G) 1)
       where
-        go : Dec (topRows n m lower upper ≡ 1) → Found (λ s. suc (s .y)) (n + bottomRows n m lower upper + topRows n m lower upper)
+        go : Dec (topRows G ≡ 1) → Found (λ s. suc (s .y)) (G .parts + bottomRows G + topRows G)
         go (yes e) =
-            let r = top-some n m lower upper H (columns m lower upper n .cables) e in
-            let c : Course = courseOf n m lower upper (r .0) in
-            found (λ s. suc (s .y)) _ (r .0) (record { x = c .column; y = c .high }) (r .1) (List·Memᴰ·tail (List·Memᴰ·tail (List·Memᴰ·tail (List·Memᴰ·head refl))))
-            (rw (r .2) (omega arith))
-        go (no e) = inl (n - 1, omega arith, omega (arith, topRows-le n m lower upper H))
+            let i : ℕ = topLine G (columns G (G .parts) .cables) in
+            let c : Course = courseOf G i in
+            found (λ s. suc (s .y)) _ i (record { x = c .column; y = c .high }) (top-some G H (columns G (G .parts) .cables) e)
+            (List·Memᴰ·tail (List·Memᴰ·tail (List·Memᴰ·tail (List·Memᴰ·head refl)))) (rw (eq-eqb i i refl) (omega arith))
+        go (no e) = inl (G .parts - 1, omega arith, omega (arith, topRows-le G H))

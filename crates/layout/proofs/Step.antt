@@ -2,17 +2,28 @@
 -- outgoing and the incoming cables of a rank, by place. Assumes nothing.
 use Prim.Native.Nat.{ℕ, zero, suc, _+_, _-_, _/_, _<_, _≤_}
 use native.Mathlib.Omega.{arith}
-use mathlib.Core.Path.{_≡_, refl, ap, _∙_}
+use native.Mathlib.Decide.{decLt, ℕ-discrete}
+use mathlib.Core.Path.{_≡_, refl, sym, ap, _∙_}
 use mathlib.Core.List.{List, [], _∷_, _++_, map, List·Memᴰ}
 use lib.ListN.{length, getD, length-append, length-map, length-replicate, getD-replicate, List·getD-append, List·getD-eq-default}
 use lib.Seq.{getD-at}
 use lib.Dec.{eqb}
 use borrow.Author.Tests.{eqb-true, eq-eqb, ne-eqb}
-use Rattle.lists.specs.Select.{range, indexOf, sortBy, oneIf}
+use Rattle.lists.specs.Select.{range, without, lastly, indexOf, sortBy, oneIf}
 use Rattle.lists.proofs.Select.{getD-tabulate, length-tabulate, getD-map, getD-mem, filter-e, filter-i, range-e, range-i, Distinct, distinct-range, distinct-filter, distinct-places, indexOf-below, getD-indexOf, indexOf-one}
+use Rattle.lists.proofs.Filters.{without-absent}
+use Rattle.lists.proofs.Lastly.{lastly-e, lastly-i, length-lastly, distinct-lastly, lastly-last, lastly-rises, without-most}
 use Rattle.lists.proofs.Sort.{sortBy-e, sortBy-i, length-sortBy, distinct-sortBy, rising-sortBy, rising-places}
-use Rattle.layout.specs.Ranked.{linesAt}
-use Rattle.layout.specs.Columns.{takenPlace, newLeft, newRight, newLast, moved, outgoing, incoming, taken, columnAt, step, columns}
+use Rattle.order.specs.Graph.{StGraph, size, lower, upper, linesAt}
+use Rattle.layout.specs.Columns.{takenPlace, newLeft, newRight, newLast, moved, bottomLine, topLine, outgoing, incoming, taken, columnAt, step, columns}
+
+-- The fourth of a list that has one: what stands there is not the default
+fourth-there : (l : List ℕ) (d m : ℕ) → length l ≡ m → getD l 3 d < d → 3 < m
+fourth-there l d m e h = go (decLt 3 (length l))
+  where
+    go : Dec (3 < length l) → 3 < m
+    go (yes g) = omega arith
+    go (no g) = absurd (omega (arith, List·getD-eq-default l d {n = 3} (omega arith)))
 
 -- The lines at a rank
 
@@ -47,83 +58,163 @@ getD-none f l j b e h = List·getD-eq-default (map f l) 0 (omega (arith, length-
 getD-half : (f : ℕ → ℕ) (l : List ℕ) (b : ℕ) → length l ≡ b → 0 < b → getD (map f l) ((length l - 1) / 2) 0 ≡ f (getD l ((b - 1) / 2) 0)
 getD-half f l b e h = getD-map f l ((length l - 1) / 2) 0 0 (omega arith) ∙ ap (λ (c : ℕ). f (getD l ((c - 1) / 2) 0)) e
 
-module _ (m : ℕ) (lower upper : ℕ → ℕ) where
+module _ (G : StGraph) where
   -- Outgoing cables
 
-  pub outgoing-e : {i : ℕ} (k : ℕ) → List·Memᴰ i (outgoing m lower upper k) → (i < m) × (lower i ≡ k)
-  unfolding outgoing
-  outgoing-e k h = linesAt-e m lower k (sortBy-e upper (linesAt m lower k) h)
+  -- by the rank of the far end, and by column
+  byRank : ℕ → List ℕ
+  byRank k = sortBy (upper G) (linesAt (size G) (lower G) k)
 
-  pub outgoing-i : (i k : ℕ) → i < m → lower i ≡ k → List·Memᴰ i (outgoing m lower upper k)
-  unfolding outgoing
-  outgoing-i i k h e = sortBy-i upper (linesAt m lower k) (linesAt-i i m lower k h e)
+  byColumn : List ℕ → ℕ → List ℕ
+  byColumn xs k = sortBy (λ i. getD xs i 0) (linesAt (size G) (upper G) k)
 
-  pub length-outgoing : (k : ℕ) → length (outgoing m lower upper k) ≡ length (linesAt m lower k)
+  pub outgoing-e : {i : ℕ} (k : ℕ) → List·Memᴰ i (outgoing G k) → (i < size G) × (lower G i ≡ k)
   unfolding outgoing
-  length-outgoing k = length-sortBy upper (linesAt m lower k)
+  outgoing-e k h = linesAt-e (size G) (lower G) k (sortBy-e (upper G) (linesAt (size G) (lower G) k) (lastly-e (bottomLine G) _ h))
 
-  pub distinct-outgoing : (k : ℕ) → Distinct (outgoing m lower upper k)
+  pub outgoing-i : (i k : ℕ) → i < size G → lower G i ≡ k → List·Memᴰ i (outgoing G k)
   unfolding outgoing
-  distinct-outgoing k = distinct-sortBy upper (linesAt m lower k) (distinct-linesAt m lower k)
+  outgoing-i i k h e = lastly-i (bottomLine G) _ (sortBy-i (upper G) (linesAt (size G) (lower G) k) (linesAt-i i (size G) (lower G) k h e))
+
+  pub length-outgoing : (k : ℕ) → length (outgoing G k) ≡ length (linesAt (size G) (lower G) k)
+  unfolding outgoing
+  length-outgoing k = length-lastly (bottomLine G) _ ∙ length-sortBy (upper G) (linesAt (size G) (lower G) k)
+
+  distinct-byRank : (k : ℕ) → Distinct (byRank k)
+  unfolding byRank
+  distinct-byRank k = distinct-sortBy (upper G) (linesAt (size G) (lower G) k) (distinct-linesAt (size G) (lower G) k)
+
+  pub distinct-outgoing : (k : ℕ) → Distinct (outgoing G k)
+  unfolding outgoing byRank
+  distinct-outgoing k = distinct-lastly (bottomLine G) _ (distinct-byRank k)
 
   -- Incoming cables, with the columns xs of the cables
 
-  pub incoming-e : {i : ℕ} (xs : List ℕ) (k : ℕ) → List·Memᴰ i (incoming m lower upper xs k) → (i < m) × (upper i ≡ k)
+  pub incoming-e : {i : ℕ} (xs : List ℕ) (k : ℕ) → List·Memᴰ i (incoming G xs k) → (i < size G) × (upper G i ≡ k)
   unfolding incoming
-  incoming-e xs k h = linesAt-e m upper k (sortBy-e (λ i. getD xs i 0) (linesAt m upper k) h)
+  incoming-e xs k h = linesAt-e (size G) (upper G) k (sortBy-e (λ i. getD xs i 0) (linesAt (size G) (upper G) k) (lastly-e (topLine G xs) _ h))
 
-  pub incoming-i : (xs : List ℕ) (i k : ℕ) → i < m → upper i ≡ k → List·Memᴰ i (incoming m lower upper xs k)
+  pub incoming-i : (xs : List ℕ) (i k : ℕ) → i < size G → upper G i ≡ k → List·Memᴰ i (incoming G xs k)
   unfolding incoming
-  incoming-i xs i k h e = sortBy-i (λ i. getD xs i 0) (linesAt m upper k) (linesAt-i i m upper k h e)
+  incoming-i xs i k h e = lastly-i (topLine G xs) _ (sortBy-i (λ i. getD xs i 0) (linesAt (size G) (upper G) k) (linesAt-i i (size G) (upper G) k h e))
 
-  pub length-incoming : (xs : List ℕ) (k : ℕ) → length (incoming m lower upper xs k) ≡ length (linesAt m upper k)
+  pub length-incoming : (xs : List ℕ) (k : ℕ) → length (incoming G xs k) ≡ length (linesAt (size G) (upper G) k)
   unfolding incoming
-  length-incoming xs k = length-sortBy (λ i. getD xs i 0) (linesAt m upper k)
+  length-incoming xs k = length-lastly (topLine G xs) _ ∙ length-sortBy (λ i. getD xs i 0) (linesAt (size G) (upper G) k)
 
-  pub distinct-incoming : (xs : List ℕ) (k : ℕ) → Distinct (incoming m lower upper xs k)
-  unfolding incoming
-  distinct-incoming xs k = distinct-sortBy (λ i. getD xs i 0) (linesAt m upper k) (distinct-linesAt m upper k)
+  distinct-byColumn : (xs : List ℕ) (k : ℕ) → Distinct (byColumn xs k)
+  unfolding byColumn
+  distinct-byColumn xs k = distinct-sortBy (λ i. getD xs i 0) (linesAt (size G) (upper G) k) (distinct-linesAt (size G) (upper G) k)
 
-  -- of two incoming cables the one at the lower place is not right of the other
+  pub distinct-incoming : (xs : List ℕ) (k : ℕ) → Distinct (incoming G xs k)
+  unfolding incoming byColumn
+  distinct-incoming xs k = distinct-lastly (topLine G xs) _ (distinct-byColumn xs k)
+
+  -- The bottom and the top connection: the laws of the two definitions that name them, from which all else follows
+
+  -- the bottom connection is a line exactly where s has four cables or more, and then one of these
+  pub bottom-there : 3 < length (linesAt (size G) (lower G) 0) → (bottomLine G < size G) × (lower G (bottomLine G) ≡ 0)
+  unfolding bottomLine
+  bottom-there h = linesAt-e (size G) (lower G) 0 (sortBy-e (upper G) _ (getD-mem (sortBy (upper G) (linesAt (size G) (lower G) 0)) 3 (size G) (omega (arith, length-sortBy (upper G) (linesAt (size G) (lower G) 0)))))
+
+  pub bottom-four : bottomLine G < size G → 3 < length (linesAt (size G) (lower G) 0)
+  unfolding bottomLine
+  bottom-four h = fourth-there (sortBy (upper G) (linesAt (size G) (lower G) 0)) (size G) _ (length-sortBy (upper G) (linesAt (size G) (lower G) 0)) h
+
+  -- the top connection and t the same
+  pub top-there : (xs : List ℕ) → 3 < length (linesAt (size G) (upper G) (G .parts - 1)) → (topLine G xs < size G) × (upper G (topLine G xs) ≡ G .parts - 1)
+  unfolding topLine
+  top-there xs h =
+      linesAt-e (size G) (upper G) (G .parts - 1)
+      (sortBy-e (λ i. getD xs i 0) _ (getD-mem (sortBy (λ i. getD xs i 0) (linesAt (size G) (upper G) (G .parts - 1))) 3 (size G) (omega (arith, length-sortBy (λ i. getD xs i 0) (linesAt (size G) (upper G) (G .parts - 1))))))
+
+  pub top-four : (xs : List ℕ) → topLine G xs < size G → 3 < length (linesAt (size G) (upper G) (G .parts - 1))
+  unfolding topLine
+  top-four xs h =
+      fourth-there (sortBy (λ i. getD xs i 0) (linesAt (size G) (upper G) (G .parts - 1))) (size G) _ (length-sortBy (λ i. getD xs i 0) (linesAt (size G) (upper G) (G .parts - 1))) h
+
+  -- it is the last of its list
+  pub bottom-last : bottomLine G < size G → suc (indexOf (bottomLine G) (outgoing G 0)) ≡ length (linesAt (size G) (lower G) 0)
+  unfolding outgoing byRank
+  bottom-last h =
+      let t = bottom-there (bottom-four h) in
+      lastly-last (bottomLine G) (byRank 0) (distinct-byRank 0) (sortBy-i (upper G) _ (linesAt-i (bottomLine G) (size G) (lower G) 0 h (t .1)))
+      ∙ length-sortBy (upper G) (linesAt (size G) (lower G) 0)
+
+  pub top-last : (xs : List ℕ) → topLine G xs < size G → suc (indexOf (topLine G xs) (incoming G xs (G .parts - 1))) ≡ length (linesAt (size G) (upper G) (G .parts - 1))
+  unfolding incoming byColumn
+  top-last xs h =
+      let t = top-there xs (top-four xs h) in
+      lastly-last (topLine G xs) (byColumn xs (G .parts - 1)) (distinct-byColumn xs (G .parts - 1))
+      (sortBy-i (λ i. getD xs i 0) _ (linesAt-i (topLine G xs) (size G) (upper G) (G .parts - 1) h (t .1)))
+      ∙ length-sortBy (λ i. getD xs i 0) (linesAt (size G) (upper G) (G .parts - 1))
+
+  -- the top connection is behind the first three
+  before-top : (xs : List ℕ) (k b : ℕ) → b < length (linesAt (size G) (upper G) k) → b < 3 → b < length (without (topLine G xs) (sortBy (λ i. getD xs i 0) (linesAt (size G) (upper G) k)))
+  unfolding byColumn
+  before-top xs k b g l = go (decLt (topLine G xs) (size G)) (ℕ-discrete (upper G (topLine G xs)) k)
+    where
+      lines : List ℕ
+      lines = sortBy (λ i. getD xs i 0) (linesAt (size G) (upper G) k)
+
+      all : length lines ≡ length (linesAt (size G) (upper G) k)
+      all = length-sortBy (λ i. getD xs i 0) (linesAt (size G) (upper G) k)
+
+      within : List·Memᴰ (topLine G xs) lines → (topLine G xs < size G) × (upper G (topLine G xs) ≡ k)
+      within m = linesAt-e (size G) (upper G) k (sortBy-e (λ i. getD xs i 0) (linesAt (size G) (upper G) k) m)
+
+      absent : (List·Memᴰ (topLine G xs) lines → ⊥) → b < length (without (topLine G xs) lines)
+      absent n = omega (arith, ap length (without-absent (topLine G xs) lines n), all)
+
+      go : Dec (topLine G xs < size G) → Dec (upper G (topLine G xs) ≡ k) → b < length (without (topLine G xs) lines)
+      go (yes u) (yes v) =
+          let f : 3 < length (linesAt (size G) (upper G) (G .parts - 1)) = top-four xs u in
+          let e : G .parts - 1 ≡ k = sym (top-there xs f .1) ∙ v in
+          omega (arith, f, ap (λ (r : ℕ). length (linesAt (size G) (upper G) r)) e, all, without-most (topLine G xs) lines (distinct-byColumn xs k))
+      go (yes u) (no v) = absent (λ m. v (within m .1))
+      go (no u) v = absent (λ m. u (within m .0))
+
+  -- of the first three incoming cables the one at the lower place is not right of the other
   pub incoming-rises :
-      (xs : List ℕ) (k a b : ℕ) → a ≤ b → b < length (incoming m lower upper xs k)
-      → getD xs (getD (incoming m lower upper xs k) a 0) 0 ≤ getD xs (getD (incoming m lower upper xs k) b 0) 0
+      (xs : List ℕ) (k a b : ℕ) → a ≤ b → b < length (incoming G xs k) → b < 3
+      → getD xs (getD (incoming G xs k) a 0) 0 ≤ getD xs (getD (incoming G xs k) b 0) 0
   unfolding incoming
-  incoming-rises xs k a b h g =
+  incoming-rises xs k a b h g l =
       let key : ℕ → ℕ = λ i. getD xs i 0 in
-      rising-places key (sortBy key (linesAt m upper k)) (rising-sortBy key (linesAt m upper k)) a b 0 h g
+      lastly-rises key (topLine G xs) (sortBy key (linesAt (size G) (upper G) k)) (rising-sortBy key (linesAt (size G) (upper G) k)) a b h
+      (before-top xs k b (omega (arith, length-lastly (topLine G xs) (sortBy key (linesAt (size G) (upper G) k)), length-sortBy key (linesAt (size G) (upper G) k))) l)
 
   -- The columns once k ranks stand: of the cable at line i, of rank j, and their count
 
   unfoldable pub cable : ℕ → ℕ → ℕ
-  cable k i = getD (columns m lower upper k .cables) i 0
+  cable k i = getD (columns G k .cables) i 0
 
   unfoldable pub part : ℕ → ℕ → ℕ
-  part k j = getD (columns m lower upper k .parts) j 0
+  part k j = getD (columns G k .parts) j 0
 
   unfoldable pub width : ℕ → ℕ
-  width k = columns m lower upper k .count
+  width k = columns G k .count
 
   -- What rank k adds: how many come in and go out, the cable at a place, the place of a cable, the column taken, the new columns on its left and right
 
   unfoldable pub outs : ℕ → ℕ
-  outs k = length (outgoing m lower upper k)
+  outs k = length (outgoing G k)
 
   unfoldable pub ins : ℕ → ℕ
-  ins k = length (linesAt m upper k)
+  ins k = length (linesAt (size G) (upper G) k)
 
   unfoldable pub outPlace : ℕ → ℕ → ℕ
-  outPlace k i = indexOf i (outgoing m lower upper k)
+  outPlace k i = indexOf i (outgoing G k)
 
   -- among the incoming cables by their columns once k ranks stand
   unfoldable pub inPlace : ℕ → ℕ → ℕ
-  inPlace k i = indexOf i (incoming m lower upper (columns m lower upper k .cables) k)
+  inPlace k i = indexOf i (incoming G (columns G k .cables) k)
 
   unfoldable pub inAt : ℕ → ℕ → ℕ
-  inAt k j = getD (incoming m lower upper (columns m lower upper k .cables) k) j 0
+  inAt k j = getD (incoming G (columns G k .cables) k) j 0
 
   unfoldable pub took : ℕ → ℕ
-  took k = taken m lower upper (columns m lower upper k .cables) k
+  took k = taken G (columns G k .cables) k
 
   unfoldable pub lefts : ℕ → ℕ
   lefts k = oneIf (newLeft (ins k) (outs k))
@@ -133,9 +224,9 @@ module _ (m : ℕ) (lower upper : ℕ → ℕ) where
 
   -- The state at the start
 
-  pub cable-start : (i : ℕ) → i < m → cable 0 i ≡ 0
+  pub cable-start : (i : ℕ) → i < size G → cable 0 i ≡ 0
   unfolding cable columns
-  cable-start i h = getD-replicate m i 0 0 h
+  cable-start i h = getD-replicate (size G) i 0 0 h
 
   pub width-start : width 0 ≡ 1
   unfolding width columns
@@ -143,31 +234,31 @@ module _ (m : ℕ) (lower upper : ℕ → ℕ) where
 
   -- The state once rank k stands
 
-  pub cable-opened : (k i : ℕ) → i < m → lower i ≡ k → cable (suc k) i ≡ columnAt m lower upper (took k) (width k + lefts k + rights k) (outPlace k i)
+  pub cable-opened : (k i : ℕ) → i < size G → lower G i ≡ k → cable (suc k) i ≡ columnAt (took k) (width k + lefts k + rights k) (outPlace k i)
   unfolding cable columns step took width lefts rights outPlace ins outs
-  cable-opened k i h e = getD-tabulate m _ i 0 h ∙ rw (eq-eqb (lower i) k e)
+  cable-opened k i h e = getD-tabulate (size G) _ i 0 h ∙ rw (eq-eqb (lower G i) k e)
 
-  pub cable-kept : (k i : ℕ) → i < m → (lower i ≡ k → ⊥) → cable (suc k) i ≡ moved (took k) (lefts k) (rights k) (cable k i)
+  pub cable-kept : (k i : ℕ) → i < size G → (lower G i ≡ k → ⊥) → cable (suc k) i ≡ moved (took k) (lefts k) (rights k) (cable k i)
   unfolding cable columns step took width lefts rights outPlace ins outs
-  cable-kept k i h n = getD-tabulate m _ i 0 h ∙ rw (ne-eqb (lower i) k n)
+  cable-kept k i h n = getD-tabulate (size G) _ i 0 h ∙ rw (ne-eqb (lower G i) k n)
 
-  pub length-cables : (k : ℕ) → length (columns m lower upper k .cables) ≡ m
+  pub length-cables : (k : ℕ) → length (columns G k .cables) ≡ size G
   unfolding columns step
-  length-cables zero = length-replicate m 0
-  length-cables (suc k) = length-tabulate m _
+  length-cables zero = length-replicate (size G) 0
+  length-cables (suc k) = length-tabulate (size G) _
 
-  pub length-parts : (k : ℕ) → length (columns m lower upper k .parts) ≡ k
+  pub length-parts : (k : ℕ) → length (columns G k .parts) ≡ k
   unfolding columns step
   length-parts zero = refl
-  length-parts (suc k) = length-more _ (columns m lower upper k .parts) _ ∙ ap suc (length-parts k)
+  length-parts (suc k) = length-more _ (columns G k .parts) _ ∙ ap suc (length-parts k)
 
   pub part-kept : (k j : ℕ) → j < k → part (suc k) j ≡ moved (took k) (lefts k) (rights k) (part k j)
   unfolding part columns step took lefts rights ins outs
-  part-kept k j h = getD-more _ (columns m lower upper k .parts) _ j k (length-parts k) h
+  part-kept k j h = getD-more _ (columns G k .parts) _ j k (length-parts k) h
 
   pub part-opened : (k : ℕ) → part (suc k) k ≡ took k + lefts k
   unfolding part columns step took lefts rights ins outs
-  part-opened k = getD-last _ (columns m lower upper k .parts) _ k (length-parts k)
+  part-opened k = getD-last _ (columns G k .parts) _ k (length-parts k)
 
   pub width-suc : (k : ℕ) → width (suc k) ≡ width k + lefts k + rights k + oneIf (newLast (outs k))
   unfolding width columns step lefts rights ins outs
@@ -175,58 +266,58 @@ module _ (m : ℕ) (lower upper : ℕ → ℕ) where
 
   -- Places
 
-  pub outPlace-below : (k i : ℕ) → i < m → lower i ≡ k → outPlace k i < outs k
+  pub outPlace-below : (k i : ℕ) → i < size G → lower G i ≡ k → outPlace k i < outs k
   unfolding outPlace outs
-  outPlace-below k i h e = indexOf-below (outgoing m lower upper k) (outgoing-i i k h e)
+  outPlace-below k i h e = indexOf-below (outgoing G k) (outgoing-i i k h e)
 
-  pub outPlace-one : (k i j : ℕ) → i < m → j < m → lower i ≡ k → lower j ≡ k → outPlace k i ≡ outPlace k j → i ≡ j
+  pub outPlace-one : (k i j : ℕ) → i < size G → j < size G → lower G i ≡ k → lower G j ≡ k → outPlace k i ≡ outPlace k j → i ≡ j
   unfolding outPlace
-  outPlace-one k i j h g e f q = indexOf-one (outgoing m lower upper k) (outgoing-i i k h e) (outgoing-i j k g f) q
+  outPlace-one k i j h g e f q = indexOf-one (outgoing G k) (outgoing-i i k h e) (outgoing-i j k g f) q
 
-  pub inPlace-below : (k i : ℕ) → i < m → upper i ≡ k → inPlace k i < ins k
+  pub inPlace-below : (k i : ℕ) → i < size G → upper G i ≡ k → inPlace k i < ins k
   unfolding inPlace ins
   inPlace-below k i h e =
-      let xs = columns m lower upper k .cables in
-      omega (arith, indexOf-below (incoming m lower upper xs k) (incoming-i xs i k h e), length-incoming xs k)
+      let xs = columns G k .cables in
+      omega (arith, indexOf-below (incoming G xs k) (incoming-i xs i k h e), length-incoming xs k)
 
-  pub inPlace-one : (k i j : ℕ) → i < m → j < m → upper i ≡ k → upper j ≡ k → inPlace k i ≡ inPlace k j → i ≡ j
+  pub inPlace-one : (k i j : ℕ) → i < size G → j < size G → upper G i ≡ k → upper G j ≡ k → inPlace k i ≡ inPlace k j → i ≡ j
   unfolding inPlace
   inPlace-one k i j h g e f q =
-      let xs = columns m lower upper k .cables in
-      indexOf-one (incoming m lower upper xs k) (incoming-i xs i k h e) (incoming-i xs j k g f) q
+      let xs = columns G k .cables in
+      indexOf-one (incoming G xs k) (incoming-i xs i k h e) (incoming-i xs j k g f) q
 
-  pub inAt-inPlace : (k i : ℕ) → i < m → upper i ≡ k → inAt k (inPlace k i) ≡ i
+  pub inAt-inPlace : (k i : ℕ) → i < size G → upper G i ≡ k → inAt k (inPlace k i) ≡ i
   unfolding inAt inPlace
   inAt-inPlace k i h e =
-      let xs = columns m lower upper k .cables in
-      getD-indexOf (incoming m lower upper xs k) 0 (incoming-i xs i k h e)
+      let xs = columns G k .cables in
+      getD-indexOf (incoming G xs k) 0 (incoming-i xs i k h e)
 
-  pub inAt-comes : (k j : ℕ) → j < ins k → (inAt k j < m) × (upper (inAt k j) ≡ k)
+  pub inAt-comes : (k j : ℕ) → j < ins k → (inAt k j < size G) × (upper G (inAt k j) ≡ k)
   unfolding inAt ins
   inAt-comes k j h =
-      let xs = columns m lower upper k .cables in
-      incoming-e xs k (getD-mem (incoming m lower upper xs k) j 0 (omega (arith, length-incoming xs k)))
+      let xs = columns G k .cables in
+      incoming-e xs k (getD-mem (incoming G xs k) j 0 (omega (arith, length-incoming xs k)))
 
   pub inAt-one : (k a b : ℕ) → a < ins k → b < ins k → inAt k a ≡ inAt k b → a ≡ b
   unfolding inAt ins
   inAt-one k a b h g e =
-      let xs = columns m lower upper k .cables in
-      distinct-places (incoming m lower upper xs k) (distinct-incoming xs k) a b 0 (omega (arith, length-incoming xs k)) (omega (arith, length-incoming xs k)) e
+      let xs = columns G k .cables in
+      distinct-places (incoming G xs k) (distinct-incoming xs k) a b 0 (omega (arith, length-incoming xs k)) (omega (arith, length-incoming xs k)) e
 
-  pub inAt-rises : (k a b : ℕ) → a ≤ b → b < ins k → cable k (inAt k a) ≤ cable k (inAt k b)
+  pub inAt-rises : (k a b : ℕ) → a ≤ b → b < ins k → b < 3 → cable k (inAt k a) ≤ cable k (inAt k b)
   unfolding inAt ins cable
-  inAt-rises k a b h g =
-      let xs = columns m lower upper k .cables in
-      incoming-rises xs k a b h (omega (arith, length-incoming xs k))
+  inAt-rises k a b h g l =
+      let xs = columns G k .cables in
+      incoming-rises xs k a b h (omega (arith, length-incoming xs k)) l
 
   pub took-none : (k : ℕ) → ins k ≡ 0 → took k ≡ 0
   unfolding took taken ins
   took-none k e =
-      let xs = columns m lower upper k .cables in
-      getD-none (λ i. getD xs i 0) (incoming m lower upper xs k) _ (ins k) (length-incoming xs k) e
+      let xs = columns G k .cables in
+      getD-none (λ i. getD xs i 0) (incoming G xs k) _ (ins k) (length-incoming xs k) e
 
   pub took-comes : (k : ℕ) → 0 < ins k → took k ≡ cable k (inAt k ((ins k - 1) / 2))
   unfolding took taken ins inAt cable takenPlace
   took-comes k h =
-      let xs = columns m lower upper k .cables in
-      getD-half (λ i. getD xs i 0) (incoming m lower upper xs k) (ins k) (length-incoming xs k) h
+      let xs = columns G k .cables in
+      getD-half (λ i. getD xs i 0) (incoming G xs k) (ins k) (length-incoming xs k) h

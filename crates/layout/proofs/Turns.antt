@@ -12,19 +12,12 @@ use borrow.Author.Tests.{eqb-true, eq-eqb, ne-eqb}
 use Rattle.lists.specs.Select.{oneIf, consIf}
 use Rattle.lists.proofs.Bools.{and-e}
 use Rattle.lists.proofs.Tests.{eqb-sym}
-use Rattle.layout.specs.Points.{Spot, Course, sameSpot, turns, dropRepeats, pointsOf, inner, cornersOf}
+use Rattle.drawing.specs.Spots.{Spot, sameSpot}
+use Rattle.drawing.proofs.Spots.{same-spot-e}
+use Rattle.layout.specs.Points.{Course, turns, dropRepeats, pointsOf, inner, cornersOf}
 
 -- Equal spots
 
-pub same-spot : (p q : Spot) → sameSpot p q ≡ true → p ≡ q
-unfolding sameSpot
-same-spot p q e =
-    let t = and-e (eqb (p .x) (q .x)) (eqb (p .y) (q .y)) e in
-    let ex = eqb-true (p .x) (q .x) (t .0) in
-    let ey = eqb-true (p .y) (q .y) (t .1) in
-    λ i. record { x = ex i; y = ey i }
-
--- of two spots in one column, and of two in one row
 pub same-column : (x y z : ℕ) → sameSpot (record { x = x; y = y }) (record { x = x; y = z }) ≡ eqb y z
 unfolding sameSpot
 same-column x y z = rw (eq-eqb x x refl) refl
@@ -54,7 +47,7 @@ repeats-i {s} (p ∷ q ∷ r) h = go (sameSpot p q) refl (List·Memᴰ·cases-co
     go :
         (b : Bool) → sameSpot p q ≡ b → (s ≡ p) ⊎ List·Memᴰ s (q ∷ r) → (List·Memᴰ s (q ∷ r) → List·Memᴰ s (dropRepeats (q ∷ r)))
         → List·Memᴰ s (consIf (not b) p (dropRepeats (q ∷ r)))
-    go true e (inl f) below = below (List·Memᴰ·head (f ∙ same-spot p q e))
+    go true e (inl f) below = below (List·Memᴰ·head (f ∙ same-spot-e p q e))
     go true e (inr g) below = below g
     go false e (inl f) below = List·Memᴰ·head f
     go false e (inr g) below = List·Memᴰ·tail (below g)
@@ -103,7 +96,7 @@ repeats-first p (q ∷ l) = go (sameSpot p q) refl (repeats-first q l)
     go :
         (b : Bool) → sameSpot p q ≡ b → (r : List Spot) × (dropRepeats (q ∷ l) ≡ q ∷ r)
         → (r : List Spot) × (consIf (not b) p (dropRepeats (q ∷ l)) ≡ p ∷ r)
-    go true e (r, f) = (r, f ∙ ap (λ (z : Spot). z ∷ r) (sym (same-spot p q e)))
+    go true e (r, f) = (r, f ∙ ap (λ (z : Spot). z ∷ r) (sym (same-spot-e p q e)))
     go false e f = (dropRepeats (q ∷ l), refl)
 
 repeats-last : (l : List Spot) (t : Spot) → (r : List Spot) × (dropRepeats (l ++ t ∷ []) ≡ r ++ t ∷ [])

@@ -6,57 +6,45 @@ use native.Mathlib.Decide.{decLt}
 use mathlib.Core.Path.{_≡_, refl}
 use mathlib.Core.List.{List, [], _∷_, map}
 use lib.ListN.{length, getD}
-use Rattle.lists.specs.Select.{upFrom, range, tabulate, filter, indexOf, insertBy, sortBy}
+use Rattle.lists.specs.Select.{upFrom, range, tabulate, filter, without, lastly, indexOf, insertBy, sortBy}
 use Rattle.lists.proofs.Select.{getD-mem}
-use Rattle.layout.specs.Ranked.{linesAt, Ranked}
-use Rattle.layout.specs.Standing.{Given}
+use Rattle.order.specs.Graph.{StGraph, size, lower, upper, linesAt, Ranked}
 use Rattle.layout.proofs.Step.{linesAt-e}
-use Rattle.layout.specs.Columns.{takenPlace, newLeft, newRight, newLast, moved, outgoing, incoming, taken, columnAt, step, columns}
-use Rattle.layout.specs.Points.{Spot, sameSpot, turns, dropRepeats, pointsOf, inner, cornersOf, bottomRows, topRows, row, isBottom, isTop, partSpot, course, spotOf, courseOf}
-
-abbrev pub by : List ℕ → ℕ → ℕ
-by l i = getD l i 0
+use Rattle.layout.specs.Columns.{takenPlace, newLeft, newRight, newLast, moved, bottomLine, topLine, outgoing, incoming, taken, columnAt, step, columns}
+use Rattle.drawing.specs.Spots.{Spot, sameSpot}
+use Rattle.layout.specs.Points.{turns, dropRepeats, pointsOf, inner, cornersOf, bottomRows, topRows, row, partSpot, course, rankSpot, courseOf}
 
 abbrev at : ℕ → ℕ → Spot
 at x y = record { x = x; y = y }
 
--- the spots of n ranks, and the corners of the cable at a line, for the ranks of the cables' lower and upper parts
-abbrev spots : ℕ → List ℕ → List ℕ → List Spot
-spots n lowers uppers = tabulate n (spotOf n (length lowers) (by lowers) (by uppers))
+-- the spots of the ranks, and the corners of the cable at a line
+abbrev spots : StGraph → List Spot
+spots G = tabulate (G .parts) (rankSpot G)
 
-abbrev corners : ℕ → List ℕ → List ℕ → ℕ → List Spot
-corners n lowers uppers i = cornersOf (courseOf n (length lowers) (by lowers) (by uppers) i)
+abbrev corners : StGraph → ℕ → List Spot
+corners G i = cornersOf (courseOf G i)
 
-abbrev b-lowers : List ℕ
-b-lowers = 0 ∷ 1 ∷ 2 ∷ 0 ∷ []
+abbrev b : StGraph
+b = record { parts = 4; lowers = 0 ∷ 1 ∷ 2 ∷ 0 ∷ []; uppers = 1 ∷ 3 ∷ 3 ∷ 2 ∷ [] }
 
-abbrev b-uppers : List ℕ
-b-uppers = 1 ∷ 3 ∷ 3 ∷ 2 ∷ []
+abbrev c : StGraph
+c = record { parts = 4; lowers = 0 ∷ 0 ∷ 1 ∷ 2 ∷ 0 ∷ []; uppers = 2 ∷ 1 ∷ 2 ∷ 3 ∷ 3 ∷ [] }
 
-abbrev c-lowers : List ℕ
-c-lowers = 0 ∷ 0 ∷ 1 ∷ 2 ∷ 0 ∷ []
-
-abbrev c-uppers : List ℕ
-c-uppers = 2 ∷ 1 ∷ 2 ∷ 3 ∷ 3 ∷ []
-
-abbrev pub d-lowers : List ℕ
-d-lowers = 0 ∷ 0 ∷ 0 ∷ 0 ∷ 1 ∷ 1 ∷ 1 ∷ 2 ∷ 2 ∷ 3 ∷ []
-
-abbrev pub d-uppers : List ℕ
-d-uppers = 1 ∷ 2 ∷ 3 ∷ 4 ∷ 2 ∷ 3 ∷ 4 ∷ 3 ∷ 4 ∷ 4 ∷ []
+abbrev pub d : StGraph
+d = record { parts = 5; lowers = 0 ∷ 0 ∷ 0 ∷ 0 ∷ 1 ∷ 1 ∷ 1 ∷ 2 ∷ 2 ∷ 3 ∷ []; uppers = 1 ∷ 2 ∷ 3 ∷ 4 ∷ 2 ∷ 3 ∷ 4 ∷ 3 ∷ 4 ∷ 4 ∷ [] }
 
 record Worked : Type 0 where
-  b-line-2 : corners 4 b-lowers b-uppers 2 ≡ at 1 3 ∷ []
-  b-line-3 : corners 4 b-lowers b-uppers 3 ≡ at 1 0 ∷ []
-  c-spots : spots 4 c-lowers c-uppers ≡ at 1 0 ∷ at 0 1 ∷ at 0 2 ∷ at 0 3 ∷ []
-  c-line-0 : corners 4 c-lowers c-uppers 0 ≡ at 1 2 ∷ []
-  c-line-1 : corners 4 c-lowers c-uppers 1 ≡ at 0 0 ∷ []
-  c-line-4 : corners 4 c-lowers c-uppers 4 ≡ at 2 0 ∷ at 2 3 ∷ []
-  d-spots : spots 5 d-lowers d-uppers ≡ at 4 1 ∷ at 2 2 ∷ at 1 3 ∷ at 2 4 ∷ at 2 5 ∷ []
-  d-line-3 : corners 5 d-lowers d-uppers 3 ≡ at 4 0 ∷ at 6 0 ∷ at 6 6 ∷ at 2 6 ∷ []
+  b-line-2 : corners b 2 ≡ at 1 3 ∷ []
+  b-line-3 : corners b 3 ≡ at 1 0 ∷ []
+  c-spots : spots c ≡ at 1 0 ∷ at 0 1 ∷ at 0 2 ∷ at 0 3 ∷ []
+  c-line-0 : corners c 0 ≡ at 1 2 ∷ []
+  c-line-1 : corners c 1 ≡ at 0 0 ∷ []
+  c-line-4 : corners c 4 ≡ at 2 0 ∷ at 2 3 ∷ []
+  d-spots : spots d ≡ at 4 1 ∷ at 2 2 ∷ at 1 3 ∷ at 2 4 ∷ at 2 5 ∷ []
+  d-line-3 : corners d 3 ≡ at 4 0 ∷ at 6 0 ∷ at 6 6 ∷ at 2 6 ∷ []
 
 worked : Worked
-unfolding upFrom range tabulate filter indexOf insertBy sortBy linesAt takenPlace newLeft newRight newLast moved outgoing incoming taken columnAt step columns sameSpot turns dropRepeats pointsOf inner cornersOf bottomRows topRows row isBottom isTop partSpot course spotOf courseOf
+unfolding upFrom range tabulate filter indexOf insertBy sortBy linesAt takenPlace newLeft newRight newLast moved lastly without bottomLine topLine outgoing incoming taken columnAt step columns sameSpot turns dropRepeats pointsOf inner cornersOf bottomRows topRows row partSpot course rankSpot courseOf
 worked = record {
   b-line-2 = refl;
   b-line-3 = refl;
@@ -93,13 +81,13 @@ no-line m rank k below = go (decLt 0 (length (linesAt m rank k)))
         absurd (omega (arith, below _ (c .0), c .1))
     go (no h) = omega arith
 
-d-rises : (i : ℕ) → i < 10 → by d-lowers i < by d-uppers i
-d-rises = each-line (λ i. by d-lowers i < by d-uppers i) (omega arith)
+d-rises : (i : ℕ) → i < 10 → lower d i < upper d i
+d-rises = each-line (λ i. lower d i < upper d i) (omega arith)
 
-d-inside : (i : ℕ) → i < 10 → by d-uppers i < 5
-d-inside = each-line (λ i. by d-uppers i < 5) (omega arith)
+d-inside : (i : ℕ) → i < 10 → upper d i < 5
+d-inside = each-line (λ i. upper d i < 5) (omega arith)
 
-d-entered : (k : ℕ) → 0 < k → k < 5 → (i : ℕ) × (i < 10) × (by d-uppers i ≡ k)
+d-entered : (k : ℕ) → 0 < k → k < 5 → (i : ℕ) × (i < 10) × (upper d i ≡ k)
 d-entered zero h g = absurd (omega arith)
 d-entered (suc zero) h g = (0, omega arith, refl)
 d-entered (suc (suc zero)) h g = (1, omega arith, refl)
@@ -107,14 +95,14 @@ d-entered (suc (suc (suc zero))) h g = (2, omega arith, refl)
 d-entered (suc (suc (suc (suc zero)))) h g = (3, omega arith, refl)
 d-entered (suc (suc (suc (suc (suc k))))) h g = absurd (omega arith)
 
-d-continued : (k : ℕ) → suc k < 5 → (i : ℕ) × (i < 10) × (by d-lowers i ≡ k)
+d-continued : (k : ℕ) → suc k < 5 → (i : ℕ) × (i < 10) × (lower d i ≡ k)
 d-continued zero g = (0, omega arith, refl)
 d-continued (suc zero) g = (4, omega arith, refl)
 d-continued (suc (suc zero)) g = (7, omega arith, refl)
 d-continued (suc (suc (suc zero))) g = (9, omega arith, refl)
 d-continued (suc (suc (suc (suc k)))) g = absurd (omega arith)
 
-d-four : (k : ℕ) → length (linesAt 10 (by d-lowers) k) + length (linesAt 10 (by d-uppers) k) ≤ 4
+d-four : (k : ℕ) → length (linesAt 10 (lower d) k) + length (linesAt 10 (upper d) k) ≤ 4
 unfolding upFrom range filter linesAt
 d-four zero = omega arith
 d-four (suc zero) = omega arith
@@ -125,13 +113,9 @@ d-four (suc (suc (suc (suc (suc k))))) =
     let r = suc (suc (suc (suc (suc k)))) in
     omega (
       arith,
-      no-line 10 (by d-lowers) r (λ i h. omega (arith, d-rises i h, d-inside i h)),
-      no-line 10 (by d-uppers) r (λ i h. omega (arith, d-inside i h)),
+      no-line 10 (lower d) r (λ i h. omega (arith, d-rises i h, d-inside i h)),
+      no-line 10 (upper d) r (λ i h. omega (arith, d-inside i h)),
     )
 
-pub d-ranked : Ranked 5 10 (by d-lowers) (by d-uppers)
-d-ranked = record { rises = d-rises; inside = d-inside; entered = d-entered; continued = d-continued; four = d-four }
-
--- what the code of the layout asks
-pub d-given : Given 5 d-lowers d-uppers
-d-given = record { ranked = d-ranked; lines = refl; parts = omega arith }
+pub d-ranked : Ranked d
+d-ranked = record { lines = refl; rises = d-rises; inside = d-inside; entered = d-entered; continued = d-continued; four = d-four }

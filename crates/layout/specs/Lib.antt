@@ -1,9 +1,10 @@
 -- Document 01, 'Columns and rows', in ranks: a cable is its line, with the ranks of its two parts. Assumes nothing.
-pub mod Ranked
 pub mod Columns
 pub mod Points
-pub mod Lines
-pub mod Crossing
-pub mod Readings
-pub mod Standing
+pub mod Layout
+pub mod Over
+pub mod Arrays
+-- what the contracts inside this crate cite
+pub mod Incidents
+pub mod Placements
 pub mod Courses

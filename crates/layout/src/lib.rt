@@ -1,4 +1,54 @@
-// The layout of a ranked station: columns of parts and cables, and the points of each cable.
-pub mod columns;
-pub mod incident;
-pub mod points;
+// The layout of a station's cables in ranks: the columns of parts and cables, and the course of each cable.
+use drawing::Spot;
+use order::Graph;
+
+mod courses;
+mod ends;
+mod incident;
+mod placing;
+
+ghost use mathlib.Core.Path.{_≡_};
+ghost use Rattle.layout.specs.Arrays.{Given, Laid};
+
+// A cable's course: its two parts' spots, its lower and its upper lane, and its column.
+pub struct Course {
+    pub from: Spot,
+    pub low: u16,
+    pub column: u16,
+    pub high: u16,
+    pub to: Spot,
+}
+
+// The column of each cable by line and of each part by rank, and the count of columns.
+pub struct Columns {
+    pub cables: [u16; 512],
+    pub parts: [u16; 256],
+    pub count: u16,
+}
+
+// The layout of a graph: its columns, document 01's d and e, and the course of each cable by line.
+pub struct Layout {
+    pub graph: Graph,
+    pub columns: Columns,
+    pub bottom_rows: u16,
+    pub top_rows: u16,
+    pub courses: [Course; 512],
+}
+
+// The layout of a graph.
+pub fn lay_out(graph: Graph) -> Layout
+    requires { ⌜ Given graph ⌝ }
+    ensures { λ r. ⌜ r .graph ≡ graph ⌝ }
+    ensures { λ r. ⌜ Laid r ⌝ }
+{
+    let columns = placing::columns_of(graph);
+    let ends = ends::ends_of(graph, columns);
+    let courses = courses::courses_of(graph, columns, ends);
+    Layout {
+        graph,
+        columns,
+        bottom_rows: ends.bottom_rows,
+        top_rows: ends.top_rows,
+        courses,
+    }
+}

@@ -49,6 +49,11 @@ module _ {A : Type 0} (f : ℕ → A) (d : A) where
   pub filled-all : {i : ℕ} {l₀ l : List A} (n : ℕ) → n ≤ i → length l₀ ≡ n → Filled f d i l₀ l → l ≡ tabulate n f
   filled-all {i} {l₀} {l} n h e s = tabulate-of n f d l (s .same ∙ e) (λ j g. s .done j (omega arith))
 
+  -- the first n elements are tabulated
+  pub filled-take : {i : ℕ} {l₀ l : List A} (n : ℕ) → n ≤ i → n ≤ length l₀ → Filled f d i l₀ l → take n l ≡ tabulate n f
+  filled-take {i} {l₀} {l} n h b s =
+      tabulate-of n f d (take n l) (omega (arith, length-take n l, s .same)) (λ j g. getD-take n l j d g ∙ s .done j (omega arith))
+
 -- each of the first k elements was mapped
 pub filled-map : {A : Type 0} (g : A → A) (d : A) (i k : ℕ) (l₀ l : List A) → k ≤ i → k ≤ length l₀ → Filled (λ j. g (getD l₀ j d)) d i l₀ l → take k l ≡ map g (take k l₀)
 filled-map g d i k l₀ l h b s =

@@ -20,3 +20,5 @@ pub mod Pairs
 pub mod Filters
 pub mod Kept
 pub mod Agree
+pub mod Lastly
+pub mod Same

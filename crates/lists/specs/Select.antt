@@ -54,6 +54,10 @@ sum (x ∷ xs) = x + sum xs
 unfoldable pub without : ℕ → List ℕ → List ℕ
 without x l = filter (λ y. not (eqb x y)) l
 
+-- the list with x, where it stands in it, moved to the end
+unfoldable pub lastly : ℕ → List ℕ → List ℕ
+lastly x l = without x l ++ filter (eqb x) l
+
 -- the place of x in the list, or the list's length
 unfoldable pub indexOf : ℕ → List ℕ → ℕ
 indexOf x [] = 0

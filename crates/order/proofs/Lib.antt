@@ -10,6 +10,8 @@ pub mod Completion
 pub mod StOrder
 pub mod Rule
 pub mod Ranks
+pub mod Ends
+pub mod Graphs
 pub mod Passed
 pub mod Triangle
 pub mod Rows
@@ -21,3 +23,4 @@ pub mod Separation
 pub mod Choices
 pub mod Rankings
 pub mod Drawables
+pub mod LineRanks

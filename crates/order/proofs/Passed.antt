@@ -1,10 +1,10 @@
 -- A list that passes checks 1 to 10: each check, the condition of the order theorem, and the order theorem for lists. Assumes nothing.
-use Prim.Native.Nat.{ℕ}
+use Prim.Native.Nat.{ℕ, _≤_}
+use native.Mathlib.Omega.{arith}
 use mathlib.Core.Path.{_≡_}
 use mathlib.Core.List.{List}
 use lib.ListN.{length}
 use Rattle.lists.specs.declared.Found.the-variants.{Nothing}
-use Rattle.layout.specs.Ranked.{Ranked}
 use Rattle.station.specs.Station.{stationOf}
 use Rattle.station.specs.Checks.{Verdict, passed, orElse}
 use Rattle.station.proofs.Passed.{Clear, Passed, Wired, checked-passed, orElse-passed, passed-words, wired}
@@ -12,7 +12,8 @@ use Rattle.order.specs.Reach.{check9, check10}
 use Rattle.order.specs.Verdict.{verdict10}
 use Rattle.order.specs.Order.{order}
 use Rattle.order.specs.StOrder.{StOrdering, Smallest}
-use Rattle.order.specs.Ends.{noCable, lowerRank, upperRank}
+use Rattle.order.specs.Graph.{Ranked}
+use Rattle.order.specs.Ends.{noCable, graphOf}
 use Rattle.order.proofs.Weak.{Orderable, weak-of-check10}
 use Rattle.order.proofs.StOrder.{order-ordering, order-smallest}
 use Rattle.order.proofs.Ranks.{order-ranked}
@@ -58,7 +59,9 @@ module _ (list : List ℕ) (pass : verdict10 list ≡ passed) where
   list-smallest = order-smallest (stationOf list) list-orderable
 
   -- what the layout asks for
-  pub list-ranked :
-      Ranked (stationOf list .parts) (length (stationOf list .cables)) (lowerRank (order (stationOf list)) (stationOf list .cables))
-      (upperRank (order (stationOf list)) (stationOf list .cables))
+  pub list-ranked : Ranked (graphOf (stationOf list))
   list-ranked = order-ranked (stationOf list) list-orderable list-wired
+
+  -- four cables at each of at most 256 parts
+  pub cables-most : length (stationOf list .cables) ≤ 512
+  cables-most = omega (arith, list-wired .few, list-wired .most)

@@ -3,6 +3,8 @@ pub mod Reach
 pub mod Verdict
 pub mod Order
 pub mod StOrder
+pub mod Graph
 pub mod Ends
 pub mod Tables
 pub mod Ranking
+pub mod Arrays

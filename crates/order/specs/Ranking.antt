@@ -25,3 +25,12 @@ pub record BothWays (parts : List ℕ) (r : Ranking) : Type 0 where
 pub record RankingOf (st : Station) (r : Ranking) : Type 0 where
   pub part : take (st .parts) (partNumbers (r .part)) ≡ order st
   pub rank : (p : ℕ) → p < st .parts → getD (rankNumbers (r .rank)) p 0 ≡ rankIn (order st) p
+
+-- the numbers of n parts, by rank
+abbrev pub namesIn : ℕ → Ranking → List ℕ
+namesIn n r = take n (partNumbers (r .part))
+
+-- of n parts: rank by part is the inverse of part by rank
+pub record Inverse (n : ℕ) (r : Ranking) : Type 0 where
+  pub below : (p : ℕ) → p < n → getD (rankNumbers (r .rank)) p 0 < n
+  pub rank : (p : ℕ) → p < n → getD (rankNumbers (r .rank)) p 0 ≡ rankIn (namesIn n r) p

@@ -13,8 +13,9 @@ use Rattle.lists.proofs.Stores.{stored-as}
 use Rattle.station.specs.Station.{stationOf}
 use Rattle.station.specs.Checks.{Verdict, passed, refused}
 use Rattle.order.specs.Verdict.{verdict10}
-use Rattle.hookup.specs.Drawing.{Drawing, drawing, crossings}
-use Rattle.hookup.specs.Sheet.{sheetWords}
+use Rattle.drawing.specs.Drawing.{Drawing, crossings}
+use Rattle.drawing.specs.Sheet.{sheetWords}
+use Rattle.hookup.specs.Drawing.{drawing}
 use Rattle.hookup.specs.Outcome.{Outcome, drawn, sentBack, fitted, orDrawn, outcome}
 use Rattle.text.specs.Lines.{hexLines, refusedLine}
 use Rattle.printing.specs.Printed.{answerText}

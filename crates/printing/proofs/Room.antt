@@ -8,16 +8,15 @@ use borrow.Author.Tests.{le-ltb}
 use Rattle.station.specs.Station.{stationOf}
 use Rattle.station.specs.Checks.{Verdict, passed, refused}
 use Rattle.order.specs.Verdict.{verdict10}
-use Rattle.order.proofs.Passed.{list-wired}
-use Rattle.hookup.specs.Drawing.{Drawing, drawing, crossings}
-use Rattle.hookup.specs.Sheet.{sheetWords}
+use Rattle.drawing.specs.Drawing.{Drawing, crossings}
+use Rattle.drawing.specs.Sheet.{sheetWords}
+use Rattle.hookup.specs.Drawing.{drawing}
 use Rattle.hookup.specs.Outcome.{drawn, fitted, orDrawn, outcome}
-use Rattle.hookup.proofs.Demand3.{demand3, corner-words, all-words}
+use Rattle.hookup.proofs.Demand3.{words-most}
 use Rattle.printing.specs.Printed.{room, printed}
 
--- '3m - n + 3 + d + e words', where n is at most 256 and m at most 2n
 words-within : (list : List ℕ) → verdict10 list ≡ passed → length (sheetWords (drawing (stationOf list))) ≤ room
-words-within list p = omega (arith, all-words list p, corner-words list p, demand3 list p .sizes .corners, list-wired list p .few, list-wired list p .most)
+words-within list p = omega (arith, words-most list p)
 
 fitted-ample : (d : Drawing) (words : ℕ) → length (sheetWords d) ≤ words → fitted d words ≡ drawn (sheetWords d) (crossings d)
 unfolding fitted

@@ -11,11 +11,13 @@ use borrow.Author.Tests.{ne-eqb}
 use Rattle.lists.specs.Select.{oneIf, consIf}
 use Rattle.lists.specs.Stores.{Stored}
 use Rattle.lists.proofs.Tests.{oneIf-le}
-use Rattle.lists.proofs.Stores.{stored-none, stored-append, stored-as, stored-kept}
+use Rattle.lists.proofs.Stores.{stored-none, stored-append, stored-as}
 use Rattle.words.specs.Words.{cornerWord, sheetCableWord}
-use Rattle.layout.specs.Points.{Spot, Course, turns, dropRepeats, pointsOf, inner, cornersOf, sameSpot}
+use Rattle.drawing.specs.Spots.{Spot}
+use Rattle.drawing.specs.Drawing.{Route}
+use Rattle.drawing.specs.Sheet.{cornerSpotWord, routeWords}
+use Rattle.layout.specs.Points.{Course, turns, dropRepeats, pointsOf, inner, cornersOf}
 use Rattle.layout.proofs.Turns.{same-column, same-row}
-use Rattle.writer.specs.Sheet.{cornerOf, courseWords}
 
 -- Corners
 
@@ -42,7 +44,8 @@ inner-kept false false true false p₀ p₁ p₂ p₃ p₄ p₅ = refl
 inner-kept false false false true p₀ p₁ p₂ p₃ p₄ p₅ = refl
 inner-kept false false false false p₀ p₁ p₂ p₃ p₄ p₅ = refl
 
-map-if : (b : Bool) (s : Spot) (l : List Spot) → map cornerOf (consIf b s l) ≡ consIf b (cornerWord (s .x) (s .y)) [] ++ map cornerOf l
+map-if : (b : Bool) (s : Spot) (l : List Spot) → map cornerSpotWord (consIf b s l) ≡ consIf b (cornerWord (s .x) (s .y)) [] ++ map cornerSpotWord l
+unfolding cornerSpotWord
 map-if true s l = refl
 map-if false s l = refl
 
@@ -86,7 +89,7 @@ module _ (c : Course) where
 
   corner-words :
       c .low < c .high
-      → map cornerOf (cornersOf c)
+      → map cornerSpotWord (cornersOf c)
       ≡ consIf (dips && shifts) (cornerWord (c .from .x) (c .low)) []
       ++ (consIf (dips || shifts) (cornerWord (c .column) (c .low)) []
       ++ (consIf returns (cornerWord (c .column) (c .high)) []
@@ -115,7 +118,7 @@ pub corners-stored :
     → Stored l₁ a₁ (consIf t₂ (cornerWord (c .column) (c .low)) []) l₂ a₂
     → Stored l₂ a₂ (consIf (returns c) (cornerWord (c .column) (c .high)) []) l₃ a₃
     → Stored l₃ a₃ (consIf (drops c) (cornerWord (c .to .x) (c .high)) []) l₄ a₄
-    → Stored l₀ a₀ (map cornerOf (cornersOf c)) l₄ a₄
+    → Stored l₀ a₀ (map cornerSpotWord (cornersOf c)) l₄ a₄
 corners-stored c t₁ t₂ h e f S₁ S₂ S₃ S₄ =
     stored-as (sym (corner-words c h))
     (stored-append (stored-as (ap (λ (b : Bool). consIf b (cornerWord (c .from .x) (c .low)) []) e) S₁)
@@ -128,28 +131,25 @@ sets-head l [] at next w h = refl
 sets-head l (v ∷ vs) at next w h =
     sets-head (set l next v) vs at (suc next) w (omega arith) ∙ ap (λ (z : List ℕ). sets z (suc next) vs) (set-comm l next at v w (λ e. omega arith))
 
-pub length-course : (line : ℕ) (c : Course) → length (courseWords line c) ≡ length (cornersOf c) + 1
-unfolding courseWords
-length-course line c = omega (arith, length-map (cornersOf c) cornerOf)
-
-pub corners-next : (c : Course) {l m : List ℕ} {at i : ℕ} → Stored l at (map cornerOf (cornersOf c)) m i → i ≡ at + length (cornersOf c)
-corners-next c S = omega (arith, S .place, length-map (cornersOf c) cornerOf)
+pub corners-next : (c : Course) {l m : List ℕ} {at i : ℕ} → Stored l at (map cornerSpotWord (cornersOf c)) m i → i ≡ at + length (cornersOf c)
+corners-next c S = omega (arith, S .place, length-map (cornersOf c) cornerSpotWord)
 
 pub corner-few : (c : Course) → c .low < c .high → length (cornersOf c) ≤ 4
 corner-few c h =
     omega (arith, corner-count c h, oneIf-le (dips c && shifts c), oneIf-le (dips c || shifts c), oneIf-le (returns c), oneIf-le (drops c))
 
 pub head-stored :
-    (line : ℕ) (c : Course) {l m : List ℕ} {at next w : ℕ} → Stored l (at + 1) (map cornerOf (cornersOf c)) m next
-    → w ≡ sheetCableWord line (next - at - 1) → Stored l at (courseWords line c) (set m at w) next
-unfolding courseWords
-head-stored line c {l} {m} {at} {next} {w} S e =
-    let k : next ≡ at + 1 + length (cornersOf c) = corners-next c S in
-    let f : w ≡ sheetCableWord line (length (cornersOf c)) = omega (arith, e, k) in
+    (line : ℕ) (r : Route) {l m n : List ℕ} {at next behind w : ℕ} → Stored l (at + 1) (map cornerSpotWord (r .corners)) m next
+    → w ≡ sheetCableWord line (next - at - 1) → Stored m at (w ∷ []) n behind → Stored l at (routeWords line r) n next
+unfolding routeWords
+head-stored line r {l} {m} {n} {at} {next} {behind} {w} S e H =
+    let k : next ≡ at + 1 + length (r .corners) = omega (arith, S .place, length-map (r .corners) cornerSpotWord) in
+    let f : w ≡ sheetCableWord line (length (r .corners)) = omega (arith, e, k) in
     record {
       place = omega (arith, S .place);
       row =
-          ap (λ (z : List ℕ). set z at w) (S .row)
-          ∙ sets-head l (map cornerOf (cornersOf c)) at (at + 1) w (omega arith)
-          ∙ ap₂ (λ (z n : ℕ). sets (set l at z) n (map cornerOf (cornersOf c))) f (omega arith);
+          H .row
+          ∙ ap (λ (z : List ℕ). set z at w) (S .row)
+          ∙ sets-head l (map cornerSpotWord (r .corners)) at (at + 1) w (omega arith)
+          ∙ ap₂ (λ (z n : ℕ). sets (set l at z) n (map cornerSpotWord (r .corners))) f (omega arith);
     }

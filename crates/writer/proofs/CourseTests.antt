@@ -1,12 +1,12 @@
 -- The tests on two courses, one after the other: what decides each. Assumes nothing.
 use Prim.Native.Nat.{ℕ, _<_, _≤_, min, max}
-use mathlib.Core.Path.{_≡_, refl, sym, ap, _∙_}
-use mathlib.Core.Bool.{Bool, true, false, not}
+use mathlib.Core.Path.{_≡_, refl, sym}
+use mathlib.Core.Bool.{Bool, true, false, not, _&&_, _||_, and-true, and-false}
 use lib.Dec.{eqb, ltb}
-use borrow.Author.Tests.{lt-ltb, le-ltb, eq-eqb, ne-eqb}
+use borrow.Author.Tests.{lt-ltb, le-ltb, ne-eqb}
+use Rattle.drawing.specs.Drawing.{Route, shareEnd}
 use Rattle.layout.specs.Points.{Course}
-use Rattle.layout.specs.Crossing.{over}
-use Rattle.writer.specs.Courses.{shareRow, coursesCross}
+use Rattle.layout.specs.Over.{over}
 
 module _ (c d : Course) where
   pub over-1 : c .high ≤ d .low → false ≡ over c d
@@ -27,19 +27,18 @@ module _ (c d : Course) where
   unfolding over
   over-4 a b e f g h k = rw (lt-ltb (d .low) (c .high) g, lt-ltb (c .high) (d .high) h, ← e, ← f, lt-ltb a (d .column) k) refl
 
-  pub share-4 :
-      (c .from .y ≡ d .from .y → ⊥) → (c .from .y ≡ d .to .y → ⊥) → (c .to .y ≡ d .from .y → ⊥) → eqb (c .to .y) (d .to .y) ≡ shareRow c d
-  unfolding shareRow
-  share-4 f g h = rw (ne-eqb (c .from .y) (d .from .y) f, ne-eqb (c .from .y) (d .to .y) g, ne-eqb (c .to .y) (d .from .y) h) refl
+pub share-4 :
+    (r q : Route) → (r .first ≡ q .first → ⊥) → (r .first ≡ q .last → ⊥) → (r .last ≡ q .first → ⊥) → eqb (r .last) (q .last) ≡ shareEnd r q
+unfolding shareEnd
+share-4 r q f g h = rw (ne-eqb (r .first) (q .first) f, ne-eqb (r .first) (q .last) g, ne-eqb (r .last) (q .first) h) refl
 
-  pub cross-1 : (o s : Bool) → o ≡ true → o ≡ over c d → s ≡ shareRow c d → not s ≡ coursesCross c d
-  unfolding coursesCross
-  cross-1 o s t e f = rw (← e, t, f) refl
+-- of two cables with a part in common or none, either of which may pass over the other
+module _ (shared one other : Bool) where
+  pub cross-1 : (o s : Bool) → o ≡ true → o ≡ one → s ≡ shared → not s ≡ (not shared && (one || other))
+  cross-1 o s t e f = rw (← e, t, ← f) (sym (and-true (not s)))
 
-  pub cross-2 : (o p s : Bool) → o ≡ false → p ≡ true → o ≡ over c d → p ≡ over d c → s ≡ shareRow c d → not s ≡ coursesCross c d
-  unfolding coursesCross
-  cross-2 o p s t u e f g = rw (← e, ← f, t, u, g) refl
+  pub cross-2 : (o p s : Bool) → o ≡ false → p ≡ true → o ≡ one → p ≡ other → s ≡ shared → not s ≡ (not shared && (one || other))
+  cross-2 o p s t u e f g = rw (← e, ← f, t, u, ← g) (sym (and-true (not s)))
 
-  pub cross-3 : (o p : Bool) → o ≡ false → p ≡ false → o ≡ over c d → p ≡ over d c → false ≡ coursesCross c d
-  unfolding coursesCross
-  cross-3 o p t u e f = rw (← e, ← f, t, u) refl
+  pub cross-3 : (o p : Bool) → o ≡ false → p ≡ false → o ≡ one → p ≡ other → false ≡ (not shared && (one || other))
+  cross-3 o p t u e f = rw (← e, ← f, t, u) (sym (and-false (not shared)))

@@ -1,5 +1,7 @@
--- Laws of courses in a table, and of a sheet's words.
+-- Laws of the writer's code: the tests on two courses (CourseTests), a course's corners as words (CornerWords), a drawing's words section by section
+-- (Sections), its crossings cable by cable (CrossingCounts), and what the values of a layout say of its drawing (Layouts).
 pub mod CourseTests
 pub mod CornerWords
-pub mod SheetWords
-pub mod TableEntries
+pub mod Sections
+pub mod CrossingCounts
+pub mod Layouts

@@ -1,3 +1,2 @@
--- What the writer writes and counts, from the slices that it is lent. Assumes nothing.
-pub mod Courses
-pub mod Sheet
+-- What the writer's contracts cite beyond the definitions of drawings and layouts. Assumes nothing.
+pub mod Values

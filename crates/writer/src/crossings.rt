@@ -1,13 +1,15 @@
 // 'the crossings: the pairs of cables with no part in common whose lines cross'.
-use crate::table::course_at;
-use layout::points::Course;
+use layout::Course;
+use layout::Layout;
 ghost use mathlib.Core.Path.{_≡_};
-ghost use Prim.Native.Nat.{_+_, _-_, _*_, _≤_, _<_, min, max};
-ghost use lib.ListN.{length};
-ghost use Rattle.lists.specs.Select.{upFrom, count, oneIf};
-ghost use Rattle.layout.specs.Crossing.{over};
-ghost use Rattle.layout.specs.Courses.{courseIn};
-ghost use Rattle.writer.specs.Courses.{tableCourse, shareRow, coursesCross, crossingsIn};
+ghost use mathlib.Core.Bool.{not, _&&_, _||_};
+ghost use Prim.Native.Nat.{_+_, _<_, min, max};
+ghost use lib.ListN.{drop};
+ghost use Rattle.lists.specs.Select.{count, oneIf};
+ghost use Rattle.drawing.specs.Drawing.{routeAt, shareEnd, crossPair, crossings};
+ghost use Rattle.layout.specs.Over.{over};
+ghost use Rattle.layout.specs.Arrays.{courseIn, Laid};
+ghost use Rattle.writer.specs.Values.{layoutIn, routeIn};
 
 fn least(a: u16, b: u16) -> u16
     ensures { λ r. ⌜ r ≡ min a b ⌝ }
@@ -39,7 +41,7 @@ fn passes_over(c: Course, d: Course) -> bool
 
 // The two cables have a part in common: each part has a row of its own.
 fn share_row(c: Course, d: Course) -> bool
-    ensures { λ r. ⌜ r ≡ shareRow (courseIn c) (courseIn d) ⌝ }
+    ensures { λ r. ⌜ r ≡ shareEnd (routeIn c) (routeIn d) ⌝ }
 {
     if c.from.y == d.from.y {
         return true;
@@ -53,8 +55,9 @@ fn share_row(c: Course, d: Course) -> bool
     c.to.y == d.to.y
 }
 
+// Two cables cross. Few of the pairs pass over, so that this is tested first.
 fn cross(c: Course, d: Course) -> bool
-    ensures { λ r. ⌜ r ≡ coursesCross (courseIn c) (courseIn d) ⌝ }
+    ensures { λ r. ⌜ r ≡ (not (shareEnd (routeIn c) (routeIn d)) && (over (courseIn c) (courseIn d) || over (courseIn d) (courseIn c))) ⌝ }
 {
     if passes_over(c, d) {
         return !share_row(c, d);
@@ -72,28 +75,31 @@ fn one_if(b: bool) -> usize
 }
 
 // The cables behind line i that cross its cable.
-fn crossings_of(courses: &[u16], m: usize, i: usize) -> usize
-    requires { ⌜ (i < m) × (m ≤ 512) × (length (now courses) ≡ 7 * m) ⌝ }
-    ensures { λ r. ⌜ (r ≤ 512) × (r ≡ count (λ j. coursesCross (tableCourse (now (courses .entry)) i) (tableCourse (now (courses .entry)) j)) (upFrom (i + 1) (m - (i + 1)))) ⌝ }
+fn crossings_of(layout: Layout, i: usize) -> usize
+    requires { ⌜ Laid layout ⌝ }
+    requires { ⌜ i < layout .graph .cables ⌝ }
+    ensures { λ r. ⌜ r ≡ count (crossPair (layoutIn layout) (routeAt (layoutIn layout) i)) (drop (i + 1) (layoutIn layout .routes)) ⌝ }
 {
-    let c = course_at(courses, i);
+    let m = layout.graph.cables;
+    let c = layout.courses[i];
     let mut got = 0;
     let mut j = i + 1;
     while j < m {
-        got += one_if(cross(c, course_at(courses, j)));
+        got += one_if(cross(c, layout.courses[j]));
         j += 1;
     }
     got
 }
 
-pub fn count_crossings(courses: &[u16], m: usize) -> usize
-    requires { ⌜ (m ≤ 512) × (length (now courses) ≡ 7 * m) ⌝ }
-    ensures { λ r. ⌜ r ≡ crossingsIn (now (courses .entry)) m ⌝ }
+pub fn count_crossings(layout: Layout) -> usize
+    requires { ⌜ Laid layout ⌝ }
+    ensures { λ r. ⌜ r ≡ crossings (layoutIn layout) ⌝ }
 {
+    let m = layout.graph.cables;
     let mut got = 0;
     let mut i = 0;
     while i < m {
-        got += crossings_of(courses, m, i);
+        got += crossings_of(layout, i);
         i += 1;
     }
     got

@@ -1,4 +1,3 @@
-// A sheet's words and its crossings, from the ranks and columns of its parts and the courses of its cables.
+// The words and the crossings of a layout.
 pub mod crossings;
 pub mod sheet;
-pub mod table;

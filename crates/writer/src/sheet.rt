@@ -1,26 +1,80 @@
 // A sheet's words, one behind the other: 'its head, the parts by number, then the cables by line, each followed by its corners'.
-use crate::table::course_at;
-use layout::points::Course;
+use layout::Course;
+use layout::Layout;
+use order::Ranking;
+use words::Rank;
 use words::Word;
 ghost use mathlib.Core.Path.{_≡_};
 ghost use mathlib.Core.Bool.{_&&_, _||_};
 ghost use mathlib.Core.List.{[], _∷_, map};
-ghost use Prim.Native.Nat.{ℕ, _+_, _-_, _*_, _≤_, _<_};
-ghost use lib.ListN.{length, getD};
+ghost use Prim.Native.Nat.{_+_, _≤_, _<_};
+ghost use lib.ListN.{length};
 ghost use Rattle.lists.specs.Select.{oneIf, consIf};
 ghost use Rattle.lists.specs.Stores.{Stored};
-ghost use Rattle.words.specs.Words.{sheetHeadWord, cornerWord};
+ghost use Rattle.words.specs.Words.{cornerWord};
+ghost use Rattle.order.specs.Ranking.{Inverse};
+ghost use Rattle.drawing.specs.Drawing.{spotOf};
+ghost use Rattle.drawing.specs.Sheet.{partSpotWord, cornerSpotWord, routeWords, headSection, partsSection, cablesSection, sheetWords};
 ghost use Rattle.layout.specs.Points.{cornersOf};
-ghost use Rattle.layout.specs.Courses.{courseIn};
-ghost use Rattle.writer.specs.Courses.{CourseFits, TableFits};
-ghost use Rattle.writer.specs.Sheet.{cornerOf, courseWords, tableWords, PartsFit, partIn, partsWords, wordsOf};
+ghost use Rattle.layout.specs.Arrays.{courseIn, Laid};
+ghost use Rattle.layout.proofs.Drawn.{CourseFits};
+ghost use Rattle.writer.specs.Values.{layoutIn, numberedIn, routeIn};
 
+// '3m - n + 3 + d + e words'.
+pub fn count_words(layout: Layout) -> usize
+    requires { ⌜ Laid layout ⌝ }
+    ensures { λ r. ⌜ r ≡ length (sheetWords (layoutIn layout)) ⌝ }
+{
+    let n = layout.graph.parts;
+    let m = layout.graph.cables;
+    3 * m + 3 + layout.bottom_rows as usize + layout.top_rows as usize - n
+}
+
+// A word, and the place behind it.
 fn put(sheet: &mut [u32], at: usize, w: Word) -> usize
     requires { ⌜ at < length (now sheet) ⌝ }
     ensures { λ r. ⌜ Stored (now (sheet .entry)) at (w .0 ∷ []) (now (sheet .exit)) r ⌝ }
 {
     sheet[at] = w.0;
     at + 1
+}
+
+// 'The sheet has m - n + 1 as width, n - 1 + d + e as height'.
+fn head_word(layout: Layout) -> Word
+    requires { ⌜ Laid layout ⌝ }
+    ensures { λ r. ⌜ r .0 ∷ [] ≡ headSection (layoutIn layout) ⌝ }
+{
+    let n = layout.graph.parts as u16;
+    let m = layout.graph.cables as u16;
+    Word::sheet_head(m + 1 - n, n - 1 + layout.bottom_rows + layout.top_rows)
+}
+
+// The word of the part of rank k: 'Rank k stands in row d + k.'
+fn part_word(layout: Layout, k: Rank) -> Word
+    requires { ⌜ Laid layout ⌝ }
+    requires { ⌜ k .0 < layout .graph .parts ⌝ }
+    ensures { λ r. ⌜ r .0 ≡ partSpotWord (spotOf (layoutIn layout) (k .0)) ⌝ }
+{
+    let columns = layout.columns;
+    let place = k.0 as usize;
+    Word::part(columns.parts[place], layout.bottom_rows + k.0 as u16)
+}
+
+// The parts by number.
+fn put_parts(sheet: &mut [u32], at: usize, ranking: Ranking, layout: Layout) -> usize
+    requires { ⌜ Laid layout ⌝ }
+    requires { ⌜ Inverse (layout .graph .parts) ranking ⌝ }
+    requires { ⌜ at + layout .graph .parts ≤ length (now sheet) ⌝ }
+    ensures { λ r. ⌜ Stored (now (sheet .entry)) at (partsSection (numberedIn ranking layout)) (now (sheet .exit)) r ⌝ }
+{
+    let n = layout.graph.parts;
+    let mut next = at;
+    let mut p = 0;
+    while p < n {
+        next = put(sheet, next, part_word(layout, ranking.rank[p]));
+        p += 1;
+    }
+    next
 }
 
 // A corner, where the line turns.
@@ -51,7 +105,7 @@ fn either(a: bool, b: bool) -> bool
 fn put_corners(sheet: &mut [u32], at: usize, c: Course) -> usize
     requires { ⌜ CourseFits (courseIn c) ⌝ }
     requires { ⌜ at + length (cornersOf (courseIn c)) ≤ length (now sheet) ⌝ }
-    ensures { λ r. ⌜ Stored (now (sheet .entry)) at (map cornerOf (cornersOf (courseIn c))) (now (sheet .exit)) r ⌝ }
+    ensures { λ r. ⌜ Stored (now (sheet .entry)) at (map cornerSpotWord (cornersOf (courseIn c))) (now (sheet .exit)) r ⌝ }
 {
     let dips = c.from.y != c.low;
     let shifts = c.from.x != c.column;
@@ -64,72 +118,38 @@ fn put_corners(sheet: &mut [u32], at: usize, c: Course) -> usize
 // A cable's own words. The head counts the corners, so that it is written behind them.
 fn put_cable(sheet: &mut [u32], at: usize, line: u16, c: Course) -> usize
     requires { ⌜ CourseFits (courseIn c) ⌝ }
-    requires { ⌜ at + length (courseWords line (courseIn c)) ≤ length (now sheet) ⌝ }
-    ensures { λ r. ⌜ Stored (now (sheet .entry)) at (courseWords line (courseIn c)) (now (sheet .exit)) r ⌝ }
+    requires { ⌜ at + length (routeWords line (routeIn c)) ≤ length (now sheet) ⌝ }
+    ensures { λ r. ⌜ Stored (now (sheet .entry)) at (routeWords line (routeIn c)) (now (sheet .exit)) r ⌝ }
 {
     let next = put_corners(sheet, at + 1, c);
-    sheet[at] = Word::sheet_cable(line, (next - at - 1) as u16).0;
+    put(sheet, at, Word::sheet_cable(line, (next - at - 1) as u16));
     next
 }
 
-// The cables by line, of a table of m courses.
-fn put_cables(sheet: &mut [u32], at: usize, courses: &[u16], m: usize) -> usize
-    requires { ⌜ TableFits (now courses) m ⌝ }
-    requires { ⌜ at + length (tableWords (now courses) 0 m) ≤ length (now sheet) ⌝ }
-    ensures { λ r. ⌜ Stored (now (sheet .entry)) at (tableWords (now (courses .entry)) 0 m) (now (sheet .exit)) r ⌝ }
+// The cables by line.
+fn put_cables(sheet: &mut [u32], at: usize, layout: Layout) -> usize
+    requires { ⌜ Laid layout ⌝ }
+    requires { ⌜ at + length (cablesSection (layoutIn layout)) ≤ length (now sheet) ⌝ }
+    ensures { λ r. ⌜ Stored (now (sheet .entry)) at (cablesSection (layoutIn layout)) (now (sheet .exit)) r ⌝ }
 {
+    let m = layout.graph.cables;
     let mut next = at;
     let mut line = 0;
     while line < m {
-        next = put_cable(sheet, next, line as u16, course_at(courses, line));
+        next = put_cable(sheet, next, line as u16, layout.courses[line]);
         line += 1;
     }
     next
 }
 
-// The word of part p, which stands in the column and the row of its rank.
-fn part_word(ranks: &[u8], columns: &[u16], bottom: u16, p: usize) -> Word
-    requires { ⌜ PartsFit (now ranks) (now columns) bottom ⌝ }
-    requires { ⌜ p < length (now ranks) ⌝ }
-    ensures { λ r. ⌜ r .0 ≡ partIn (now (ranks .entry)) (now (columns .entry)) bottom p ⌝ }
-{
-    let k = ranks[p];
-    Word::part(columns[k as usize], bottom + k as u16)
-}
-
-// The parts by number.
-fn put_parts(sheet: &mut [u32], at: usize, ranks: &[u8], columns: &[u16], bottom: u16) -> usize
-    requires { ⌜ PartsFit (now ranks) (now columns) bottom ⌝ }
-    requires { ⌜ at + length (now ranks) ≤ length (now sheet) ⌝ }
-    ensures { λ r. ⌜ Stored (now (sheet .entry)) at (partsWords (now (ranks .entry)) (now (columns .entry)) bottom 0 (length (now (ranks .entry)))) (now (sheet .exit)) r ⌝ }
-{
-    let mut next = at;
-    let mut p = 0;
-    while p < ranks.len() {
-        next = put(sheet, next, part_word(ranks, columns, bottom, p));
-        p += 1;
-    }
-    next
-}
-
 // All words of a sheet, from the front.
-pub fn put_sheet(
-    sheet: &mut [u32],
-    width: u16,
-    height: u16,
-    ranks: &[u8],
-    columns: &[u16],
-    bottom: u16,
-    courses: &[u16],
-    m: usize,
-) -> usize
-    requires { ⌜ (width < 4096) × (height < 4096) ⌝ }
-    requires { ⌜ PartsFit (now ranks) (now columns) bottom ⌝ }
-    requires { ⌜ TableFits (now courses) m ⌝ }
-    requires { ⌜ length (wordsOf width height (now ranks) (now columns) bottom (now courses) m) ≤ length (now sheet) ⌝ }
-    ensures { λ r. ⌜ Stored (now (sheet .entry)) 0 (wordsOf width height (now (ranks .entry)) (now (columns .entry)) bottom (now (courses .entry)) m) (now (sheet .exit)) r ⌝ }
+pub fn put_sheet(sheet: &mut [u32], ranking: Ranking, layout: Layout) -> usize
+    requires { ⌜ Laid layout ⌝ }
+    requires { ⌜ Inverse (layout .graph .parts) ranking ⌝ }
+    requires { ⌜ length (sheetWords (layoutIn layout)) ≤ length (now sheet) ⌝ }
+    ensures { λ r. ⌜ Stored (now (sheet .entry)) 0 (sheetWords (numberedIn ranking layout)) (now (sheet .exit)) r ⌝ }
 {
-    let parts = put(sheet, 0, Word::sheet_head(width, height));
-    let cables = put_parts(sheet, parts, ranks, columns, bottom);
-    put_cables(sheet, cables, courses, m)
+    let parts = put(sheet, 0, head_word(layout));
+    let cables = put_parts(sheet, parts, ranking, layout);
+    put_cables(sheet, cables, layout)
 }

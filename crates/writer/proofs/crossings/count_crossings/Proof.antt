@@ -1,40 +1,53 @@
--- The pairs counted, with those of the lines left, are all pairs. Assumes nothing.
-use Prim.Native.Nat.{ℕ, _+_, _-_, _*_, _≤_}
+-- The crossings counted, with those of the lines left, are all crossings. Assumes nothing.
+use Prim.Native.Nat.{_+_, _-_, _*_, _≤_}
 use native.Mathlib.Omega.{arith}
-use mathlib.Core.Path.{_≡_, refl, _∙_, ap}
-use mathlib.Core.Bool.{Bool}
-use mathlib.Core.List.{List}
-use lib.ListN.{length}
-use borrow.Author.Needs.{needs}
-use Rattle.lists.specs.Pairs.{pairs}
-use Rattle.lists.proofs.Pairs.{pairs-more, pairs-end}
-use Rattle.writer.specs.Courses.{tableCourse, coursesCross, crossingsIn}
+use mathlib.Core.Path.{_≡_}
+use lib.ListN.{length, drop, length-drop}
+use Rattle.lists.proofs.Sums.{count-length}
+use Rattle.drawing.specs.Drawing.{routeAt, crossPair, crossingsOf, crossings}
+use Rattle.writer.specs.Values.{layoutIn}
+use Rattle.writer.proofs.CrossingCounts.{crossings-all, crossings-next, crossings-end}
+use Rattle.writer.proofs.Layouts.{route-count}
 use Rattle.writer.proofs.crossings.count_crossings.Statement.{statement}
 use Rattle.writer.proofs.crossings.count_crossings.Tie as tie
 
-abbrev test : List ℕ → ℕ → ℕ → Bool
-test table i j = coursesCross (tableCourse table i) (tableCourse table j)
-
 abbrev Inv-loop : tie.InvT-loop
-Inv-loop courses m got₀ i₀ got i = (i ≤ m) × (got ≤ 512 * i) × (got + pairs (test courses) i (m - i) ≡ pairs (test courses) 0 m)
+Inv-loop layout m got₀ i₀ got i =
+    (i ≤ m) × (got ≤ 512 * i) × (got + crossingsOf (layoutIn layout) (drop i (layoutIn layout .routes)) ≡ crossings (layoutIn layout))
 
 abbrev μ-loop : tie.MeasureT-loop
-μ-loop courses m got₀ i₀ got i = m - i
+μ-loop layout m got₀ i₀ got i = m - i
+
+cable-count : (s : tie.Start Inv-loop μ-loop) → length (layoutIn (s .args .layout) .routes) ≡ s .args .layout .graph .cables
+cable-count s =
+    route-count (s .args .layout) (s .pre) (s .good .0 .1 .1 .0 .1 .1 .1 .1 .0 .1 .0 .1)
+
+-- a cable crosses at most as many as stand behind it
+few : (c : tie.After-crossings-of Inv-loop μ-loop) → c .crossings-of .result ≤ 512
+few c =
+    let i = c .before .before .loop .i in
+    let s = c .before .before .before in
+    let d = layoutIn (s .args .layout) in
+    omega (
+      arith,
+      c .crossings-of .ensures,
+      count-length (crossPair d (routeAt d i)) (drop (i + 1) (d .routes)),
+      length-drop (i + 1) (d .routes),
+      cable-count s,
+      s .pre .given .cables,
+    )
 
 loop-holds : tie.Need-loop-holds Inv-loop μ-loop
-loop-holds c =
-    let args = c .before .args in
-    let e : args .m - 0 ≡ args .m = omega arith in
-    (omega arith, omega arith, omega (arith, ap (pairs (test (args .courses .now)) 0) e))
+loop-holds c = (omega arith, omega arith, omega (arith, crossings-all (layoutIn (c .args .layout))))
 
 crossings-of-requires : tie.Need-crossings-of-requires Inv-loop μ-loop
-crossings-of-requires c κs = omega arith
+crossings-of-requires c κs = (c .before .before .pre, c .loop-test .taken)
 
 add-got : tie.Need-add-got Inv-loop μ-loop
-add-got c = omega arith
+add-got c = omega (arith, few c, c .before .before .before .pre .given .cables)
 
 add-i : tie.Need-add-i Inv-loop μ-loop
-add-i c = omega arith
+add-i c = omega (arith, c .before .before .before .pre .given .cables)
 
 loop-less : tie.Need-loop-less Inv-loop μ-loop
 loop-less c = omega arith
@@ -42,18 +55,15 @@ loop-less c = omega arith
 loop-again : tie.Need-loop-again Inv-loop μ-loop
 loop-again c =
     let l = c .before .before .loop in
-    let args = c .before .before .before .before .args in (
-      omega arith,
-      omega arith,
-      pairs-more (test (args .courses .now)) (l .i) (args .m) (l .got) (c .crossings-of .result) _ (c .before .loop-test .taken) (c .crossings-of .ensures .1) (l .inv .2),
-    )
+    let s = c .before .before .before in
+    let next = crossings-next (layoutIn (s .args .layout)) (l .i) (omega (arith, c .before .loop-test .taken, cable-count s)) in
+    (omega arith, omega (arith, few c), omega (arith, l .inv .2, c .crossings-of .ensures, next))
 
 returns : tie.Need-returns Inv-loop μ-loop
-unfolding crossingsIn
 returns c =
     let l = c .before .loop in
-    let args = c .before .before .before .args in
-    omega (arith, l .inv .2, pairs-end (test (args .courses .now)) (l .i) (args .m) (c .loop-test .left))
+    let s = c .before .before in
+    omega (arith, l .inv .2, crossings-end (layoutIn (s .args .layout)) (l .i) (omega (arith, c .loop-test .left, cable-count s)))
 
 pub count-crossings-spec : {M : Type 1} → statement M
 count-crossings-spec =

@@ -1,37 +1,53 @@
 -- The count of the cables passed, with that of the rest, is the whole count. Assumes nothing.
 use Prim.Native.Nat.{ℕ, _+_, _-_, _≤_, _<_}
 use native.Mathlib.Omega.{arith}
-use mathlib.Core.Path.{_≡_, refl, _∙_, ap₂}
-use mathlib.Core.List.{List}
-use lib.ListN.{length}
+use mathlib.Core.Path.{_≡_, ap, _∙_}
+use mathlib.Core.Bool.{Bool}
+use lib.ListN.{drop}
 use borrow.Author.Needs.{needs}
-use Rattle.lists.specs.Select.{upFrom, count}
+use Rattle.lists.specs.Select.{oneIf, count}
 use Rattle.lists.proofs.Tests.{oneIf-le}
-use Rattle.lists.proofs.Pairs.{count-more, count-end}
-use Rattle.writer.specs.Courses.{tableCourse, coursesCross}
+use Rattle.drawing.specs.Drawing.{Route, routeAt, crossPair}
+use Rattle.layout.specs.declared.Layout.{Layout}
+use Rattle.writer.specs.Values.{layoutIn}
+use Rattle.writer.proofs.CrossingCounts.{count-next, count-end}
+use Rattle.writer.proofs.Layouts.{Room, route-count, cross-is}
 use Rattle.writer.proofs.crossings.crossings_of.Statement.{statement}
 use Rattle.writer.proofs.crossings.crossings_of.Tie as tie
 
-abbrev from : List ℕ → ℕ → ℕ → ℕ → ℕ
-from table i j m = count (λ k. coursesCross (tableCourse table i) (tableCourse table k)) (upFrom j (m - j))
+-- whether a cable crosses that of line i, and how many do from line j on
+abbrev test : Layout → ℕ → Route → Bool
+test l i = crossPair (layoutIn l) (routeAt (layoutIn l) i)
+
+abbrev from : Layout → ℕ → ℕ → ℕ
+from l i j = count (test l i) (drop j (layoutIn l .routes))
 
 abbrev Inv-loop : tie.InvT-loop
-Inv-loop courses m i c got₀ j₀ got j = (j ≤ m) × (got < j) × (got + from courses i j m ≡ from courses i (i + 1) m)
+Inv-loop i layout m c got₀ j₀ got j = (i < j) × (j ≤ m) × (got < j) × (got + from layout i j ≡ from layout i (i + 1))
 
 abbrev μ-loop : tie.MeasureT-loop
-μ-loop courses m i c got₀ j₀ got j = m - j
+μ-loop i layout m c got₀ j₀ got j = m - j
 
-course-at-requires : tie.Need-course-at-requires Inv-loop μ-loop
-course-at-requires c κs = omega arith
+room : (s : tie.Start Inv-loop μ-loop) → Room (s .args .t1)
+room s = s .good .0 .1 .1 .0 .1 .1 .1 .1 .0 .1 .0 .1
+
+mul-c : tie.Need-mul-c Inv-loop μ-loop
+mul-c c = search needs
+
+element-copy-out-c : tie.Need-element-copy-out-c Inv-loop μ-loop
+element-copy-out-c c = search needs
 
 add-j : tie.Need-add-j Inv-loop μ-loop
-add-j c = omega arith
+add-j c = search needs
 
 loop-holds : tie.Need-loop-holds Inv-loop μ-loop
-loop-holds c = (omega arith, omega arith, omega arith)
+loop-holds c = (omega arith, omega arith, omega arith, omega arith)
 
-course-at-requires-2 : tie.Need-course-at-requires-2 Inv-loop μ-loop
-course-at-requires-2 c κs = omega arith
+mul-cross : tie.Need-mul-cross Inv-loop μ-loop
+mul-cross c = search needs
+
+element-copy-out-cross : tie.Need-element-copy-out-cross Inv-loop μ-loop
+element-copy-out-cross c = search needs
 
 cross-requires : tie.Need-cross-requires Inv-loop μ-loop
 cross-requires c κs = search needs
@@ -40,31 +56,30 @@ one-if-requires : tie.Need-one-if-requires Inv-loop μ-loop
 one-if-requires c κs = search needs
 
 add-got : tie.Need-add-got Inv-loop μ-loop
-add-got c = omega (arith, oneIf-le (c .before .cross .result))
+add-got c = omega (arith, oneIf-le (c .before .cross .result), c .before .before .before .before .before .before .pre .0 .given .cables)
 
 add-j-2 : tie.Need-add-j-2 Inv-loop μ-loop
-add-j-2 c = omega arith
+add-j-2 c = omega (arith, c .before .before .before .before .before .before .pre .0 .given .cables)
 
 loop-less : tie.Need-loop-less Inv-loop μ-loop
 loop-less c = omega arith
 
 loop-again : tie.Need-loop-again Inv-loop μ-loop
 loop-again c =
+    let h = c .before .before .before .loop-test .taken in
     let l = c .before .before .before .before .loop in
-    let args = c .before .before .before .before .before .before .before .args in (
-      omega arith,
-      omega (arith, oneIf-le (c .before .cross .result)),
-      count-more (λ k. coursesCross (tableCourse (args .courses .now) (args .i)) (tableCourse (args .courses .now) k)) (l .j) (args .m) (l .got) (c .one-if .result) _ (c .before .cross .result)
-          (c .before .before .before .loop-test .taken) (c .one-if .ensures)
-          (c .before .cross .ensures ∙ ap₂ coursesCross (c .before .before .before .before .before .course-at .ensures) (c .before .before .course-at2 .ensures))
-          (l .inv .2),
-    )
+    let s = c .before .before .before .before .before .before in
+    let few = oneIf-le (c .before .cross .result) in
+    let here = c .before .cross .ensures ∙ cross-is (s .args .t1) (s .pre .0) (room s) (s .args .i) (l .j) (l .inv .0) h in
+    let next = count-next (layoutIn (s .args .t1)) (test (s .args .t1) (s .args .i)) (l .j) (omega (arith, h, route-count (s .args .t1) (s .pre .0) (room s))) in
+    (omega arith, omega arith, omega (arith, few), omega (arith, l .inv .3, c .one-if .ensures, ap oneIf here, next))
 
 returns : tie.Need-returns Inv-loop μ-loop
 returns c =
     let l = c .before .loop in
-    let args = c .before .before .before .before .args in
-    (omega arith, omega (arith, l .inv .2, count-end (λ k. coursesCross (tableCourse (args .courses .now) (args .i)) (tableCourse (args .courses .now) k)) (l .j) (args .m) (c .loop-test .left)))
+    let s = c .before .before .before in
+    let none = count-end (layoutIn (s .args .t1)) (test (s .args .t1) (s .args .i)) (l .j) (omega (arith, c .loop-test .left, route-count (s .args .t1) (s .pre .0) (room s))) in
+    omega (arith, l .inv .3, none)
 
 pub crossings-of-spec : {M : Type 1} → statement M
 crossings-of-spec =
@@ -72,10 +87,12 @@ crossings-of-spec =
     (tie.spec
     Inv-loop
     μ-loop
-    course-at-requires
+    mul-c
+    element-copy-out-c
     add-j
     loop-holds
-    course-at-requires-2
+    mul-cross
+    element-copy-out-cross
     cross-requires
     one-if-requires
     add-got

@@ -1,50 +1,43 @@
--- A rank is below 256, and its column and its row fit their fields. Assumes nothing.
-use Prim.Native.Nat.{_+_}
+-- The rank's column and row, which fit their fields. Assumes nothing.
 use native.Mathlib.Omega.{arith}
-use lib.ListN.{getD}
+use mathlib.Core.Path.{sym, ap, _∙_}
 use borrow.Author.Needs.{needs}
+use Rattle.drawing.specs.Sheet.{partSpotWord}
+use Rattle.writer.proofs.Layouts.{spot-at, column-small, bottom-small}
 use Rattle.writer.proofs.sheet.part_word.Statement.{statement}
 use Rattle.writer.proofs.sheet.part_word.Tie as tie
 
-shared-slice-read-k : tie.Need-shared-slice-read-k
-shared-slice-read-k c = search needs
-
-cast-part : tie.Need-cast-part
-cast-part c = omega (arith, c .shared-slice-known3 .given (c .before .before .before .args .p))
+cast-place : tie.Need-cast-place
+cast-place c = search needs
 
 mul-part : tie.Need-mul-part
-mul-part c = omega (arith, c .shared-slice-known3 .given (c .before .before .before .args .p))
+mul-part c = search needs
 
-shared-slice-read-part : tie.Need-shared-slice-read-part
-shared-slice-read-part c = let s = c .before .before .before .before in s .pre .0 .below (s .args .p) (s .pre .1)
+element-copy-out-part : tie.Need-element-copy-out-part
+element-copy-out-part c = search needs
 
-cast-part-2 : tie.Need-cast-part-2
-cast-part-2 c = omega (arith, c .before .shared-slice-known3 .given (c .before .before .before .before .args .p))
+cast-part : tie.Need-cast-part
+cast-part c = search needs
 
 add-part : tie.Need-add-part
 add-part c =
-    let s = c .before .before .before .before in
-    omega (arith, c .before .shared-slice-known3 .given (s .args .p), s .pre .0 .row)
+    let s = c .before .before .before .before .before in
+    omega (arith, bottom-small (s .args .layout) (s .pre .0), s .pre .0 .given .most, s .pre .1)
 
 part-requires : tie.Need-part-requires
 part-requires c κs =
-    let s = c .before .before .before .before in (
-      s .pre .0 .column (getD (s .args .ranks .now) (s .args .p) 0) (s .pre .0 .below (s .args .p) (s .pre .1)),
-      omega (arith, c .before .shared-slice-known3 .given (s .args .p), s .pre .0 .row),
+    let s = c .before .before .before .before .before in (
+      column-small (s .args .layout) (s .pre .0) (s .args .k .0) (s .pre .1),
+      omega (arith, bottom-small (s .args .layout) (s .pre .0), s .pre .0 .given .most, s .pre .1),
     )
 
 returns : tie.Need-returns
-returns c = search needs
+unfolding partSpotWord
+returns c =
+    let s = c .before .before .before .before .before .before in
+    c .part .ensures ∙ sym (ap partSpotWord (spot-at (s .args .layout) (s .pre .0) (s .args .k .0) (s .pre .1)))
 
 pub part-word-spec : {M : Type 1} → statement M
 part-word-spec =
     tie.close
-    (tie.spec
-    shared-slice-read-k
-    cast-part
-    mul-part
-    shared-slice-read-part
-    cast-part-2
-    add-part
-    part-requires
-    returns)
+    (tie.spec cast-place mul-part element-copy-out-part cast-part add-part part-requires returns)

@@ -1,8 +1,11 @@
 -- The head stands in front of the corners, and counts them. Assumes nothing.
 use native.Mathlib.Omega.{arith}
+use mathlib.Core.Path.{_∙_}
 use borrow.Author.Needs.{needs}
-use Rattle.layout.specs.Courses.{courseIn}
-use Rattle.writer.proofs.CornerWords.{length-course, corners-next, corner-few, head-stored}
+use Rattle.drawing.proofs.WordCounts.{route-length}
+use Rattle.layout.specs.Arrays.{courseIn}
+use Rattle.writer.specs.Values.{routeIn}
+use Rattle.writer.proofs.CornerWords.{corners-next, corner-few, head-stored}
 use Rattle.writer.proofs.sheet.put_cable.Statement.{statement}
 use Rattle.writer.proofs.sheet.put_cable.Tie as tie
 
@@ -12,7 +15,7 @@ add-put-corners c = search needs
 put-corners-requires : tie.Need-put-corners-requires
 put-corners-requires c κs =
     let s = c .before .before in
-    (s .pre .0, omega (arith, length-course (s .args .line) (courseIn (s .args .c)), s .pre .1))
+    (s .pre .0, omega (arith, route-length (s .args .line) (routeIn (s .args .c)), s .pre .1))
 
 sub-sheet-cable : tie.Need-sub-sheet-cable
 sub-sheet-cable c = search needs
@@ -22,29 +25,33 @@ sub-sheet-cable-2 c = search needs
 
 cast-sheet-cable : tie.Need-cast-sheet-cable
 cast-sheet-cable c =
-    let s = c .before .before .before .before .before in
-    omega (arith, corners-next (courseIn (s .args .c)) (c .before .before .put-corners .ensures), corner-few (courseIn (s .args .c)) (s .pre .0 .rises))
+    let k = c .before .before .before in
+    let s = k .before .before .before in
+    omega (arith, corners-next (courseIn (s .args .c)) (k .put-corners .ensures), corner-few (courseIn (s .args .c)) (s .pre .0 .rises))
 
 sheet-cable-requires : tie.Need-sheet-cable-requires
 sheet-cable-requires c κs =
-    let s = c .before .before .before .before .before in
-    omega (arith, corners-next (courseIn (s .args .c)) (c .before .before .put-corners .ensures), corner-few (courseIn (s .args .c)) (s .pre .0 .rises))
+    let k = c .before .before .before in
+    let s = k .before .before .before in
+    omega (arith, corners-next (courseIn (s .args .c)) (k .put-corners .ensures), corner-few (courseIn (s .args .c)) (s .pre .0 .rises))
 
-mul-sheet : tie.Need-mul-sheet
-mul-sheet c = search needs
-
-slice-write-sheet : tie.Need-slice-write-sheet
-slice-write-sheet c =
-    let s = c .before .before .before .before .before .before in
-    omega (arith, length-course (s .args .line) (courseIn (s .args .c)), s .pre .1, c .before .before .before .put-corners .kept .0)
+put-requires : tie.Need-put-requires
+put-requires c κs =
+    let k = c .before .before .before .before in
+    let s = k .before .before .before in
+    omega (arith, route-length (s .args .line) (routeIn (s .args .c)), s .pre .1, k .put-corners .kept .0)
 
 same-length : tie.Need-same-length
-same-length c = search needs
+same-length c =
+    let k = c .before .before in
+    k .put .kept .0 ∙ k .before .before .before .before .before .put-corners .kept .0
 
 returns : tie.Need-returns
 returns c =
-    let s = c .before .before .before .before .before .before in
-    head-stored (s .args .line) (courseIn (s .args .c)) (c .before .before .before .put-corners .ensures) (c .sheet-cable .ensures)
+    let h = c .before .before in
+    let k = h .before .before .before .before .before in
+    let s = k .before .before .before in
+    head-stored (s .args .line) (routeIn (s .args .c)) (k .put-corners .ensures) (h .before .sheet-cable .ensures) (h .put .ensures)
 
 pub put-cable-spec : {M : Type 1} → statement M
 put-cable-spec =
@@ -56,7 +63,6 @@ put-cable-spec =
     sub-sheet-cable-2
     cast-sheet-cable
     sheet-cable-requires
-    mul-sheet
-    slice-write-sheet
+    put-requires
     same-length
     returns)

@@ -1,53 +1,59 @@
 -- The words of the cables that are left go behind those that are written. Assumes nothing.
-use Prim.Native.Nat.{ℕ, _+_, _-_, _≤_}
+use Prim.Native.Nat.{_+_, _-_, _≤_}
 use native.Mathlib.Omega.{arith}
-use mathlib.Core.Path.{_≡_, sym, ap, _∙_, subst}
+use mathlib.Core.Path.{ap}
 use lib.ListN.{length, length-append}
-use borrow.Author.Needs.{needs}
 use Rattle.lists.proofs.Stores.{stored-as}
 use Rattle.lists.proofs.Storing.{Storing, storing-start, storing-next, storing-end, storing-kept, storing-room}
-use Rattle.layout.specs.Points.{Course}
-use Rattle.writer.specs.Courses.{tableCourse, CourseFits}
-use Rattle.writer.specs.Sheet.{courseWords, tableWords}
-use Rattle.writer.proofs.SheetWords.{table-next, table-end, table-all}
+use Rattle.drawing.specs.Drawing.{routeAt}
+use Rattle.drawing.specs.Sheet.{routeWords, cablesSection}
+use Rattle.writer.specs.Values.{layoutIn}
+use Rattle.writer.proofs.Sections.{cablesFrom, cables-next, cables-end}
+use Rattle.writer.proofs.Layouts.{Room, route-count, course-small, route-is}
 use Rattle.writer.proofs.sheet.put_cables.Statement.{statement}
 use Rattle.writer.proofs.sheet.put_cables.Tie as tie
 
 abbrev Inv-loop : tie.InvT-loop
-Inv-loop sheet₀ at courses m next₀ line₀ sheet next line =
-    (line ≤ m) × Storing sheet₀ at (tableWords courses 0 (m - 0)) sheet next (tableWords courses line (m - line))
+Inv-loop sheet₀ at layout m next₀ line₀ sheet next line =
+    (line ≤ m) × Storing sheet₀ at (cablesSection (layoutIn layout)) sheet next (cablesFrom (layoutIn layout) line)
 
 abbrev μ-loop : tie.MeasureT-loop
-μ-loop sheet₀ at courses m next₀ line₀ sheet next line = m - line
+μ-loop sheet₀ at layout m next₀ line₀ sheet next line = m - line
+
+room : (s : tie.Start Inv-loop μ-loop) → Room (s .args .t3)
+room s = s .good .1 .1 .0 .1 .1 .0 .1 .1 .1 .1 .0 .1 .0 .1
 
 loop-holds : tie.Need-loop-holds Inv-loop μ-loop
+unfolding cablesSection
 loop-holds c = (omega arith, storing-start _ _ _)
 
 cast-put-cable : tie.Need-cast-put-cable Inv-loop μ-loop
-cast-put-cable c = omega (arith, c .before .before .before .before .before .pre .0 .lines)
+cast-put-cable c = omega (arith, c .before .before .before .before .pre .0 .given .cables)
 
-course-at-requires : tie.Need-course-at-requires Inv-loop μ-loop
-course-at-requires c κs = omega (arith, c .before .before .before .before .before .pre .0 .size)
+mul-put-cable : tie.Need-mul-put-cable Inv-loop μ-loop
+mul-put-cable c = omega (arith, c .before .before .before .before .pre .0 .given .cables)
+
+element-copy-out-put-cable : tie.Need-element-copy-out-put-cable Inv-loop μ-loop
+element-copy-out-put-cable c = omega (arith, c .before .before .before .before .pre .0 .given .cables)
 
 put-cable-requires : tie.Need-put-cable-requires Inv-loop μ-loop
 put-cable-requires c κs =
     let l = c .before .before .before .loop in
-    let s = c .before .before .before .before .before .before in
-    let h = c .before .before .loop-test .taken in
-    let e = c .course-at .ensures in
-    let all = storing-room (subst (λ (n : ℕ). s .args .at + n ≤ length (s .args .sheet .now)) (ap length (sym (table-all (s .args .courses .now) (s .args .m)))) (s .pre .1)) (l .inv .1) in (
-      subst (λ (d : Course). CourseFits d) (sym e) (s .pre .0 .fits (l .line) h),
+    let s = c .before .before .before .before .before in
+    let d = layoutIn (s .args .t3) in
+    let h = c .before .before .loop-test .taken in (
+      course-small (s .args .t3) (s .pre .0) (room s) (l .line) h,
       omega (
         arith,
-        all,
-        ap length (table-next (s .args .courses .now) (l .line) (s .args .m) h),
-        length-append (courseWords (l .line) (tableCourse (s .args .courses .now) (l .line))) (tableWords (s .args .courses .now) (l .line + 1) (s .args .m - (l .line + 1))),
-        ap (λ (d : Course). length (courseWords (l .line) d)) e,
+        storing-room (s .pre .1) (l .inv .1),
+        ap length (cables-next d (l .line) (omega (arith, h, route-count (s .args .t3) (s .pre .0) (room s)))),
+        length-append (routeWords (l .line) (routeAt d (l .line))) (cablesFrom d (l .line + 1)),
+        ap length (route-is (s .args .t3) (s .pre .0) (room s) (l .line) (l .line) h),
       ),
     )
 
 add-line : tie.Need-add-line Inv-loop μ-loop
-add-line c = omega (arith, c .before .before .before .before .before .before .before .before .before .pre .0 .lines)
+add-line c = omega (arith, c .before .before .before .before .before .before .before .before .pre .0 .given .cables)
 
 loop-less : tie.Need-loop-less Inv-loop μ-loop
 loop-less c = omega arith
@@ -56,11 +62,11 @@ loop-again : tie.Need-loop-again Inv-loop μ-loop
 loop-again c =
     let k = c .before .before in
     let l = k .before .before .before .before .loop in
-    let s = k .before .before .before .before .before .before .before in
+    let s = k .before .before .before .before .before .before in
     let h = k .before .before .before .loop-test .taken in (
       omega arith,
-      storing-next _ (table-next (s .args .courses .now) (l .line) (s .args .m) h)
-          (stored-as (ap (λ (d : Course). courseWords (l .line) d) (k .before .course-at .ensures)) (k .put-cable .ensures)) (l .inv .1),
+      storing-next _ (cables-next (layoutIn (s .args .t3)) (l .line) (omega (arith, h, route-count (s .args .t3) (s .pre .0) (room s))))
+          (stored-as (route-is (s .args .t3) (s .pre .0) (room s) (l .line) (l .line) h) (k .put-cable .ensures)) (l .inv .1),
     )
 
 same-length : tie.Need-same-length Inv-loop μ-loop
@@ -68,9 +74,8 @@ same-length c = storing-kept (c .before .loop .inv .1)
 
 returns : tie.Need-returns Inv-loop μ-loop
 returns c =
-    let s = c .before .before .before .before in
-    stored-as (table-all (s .args .courses .now) (s .args .m))
-    (storing-end (table-end (s .args .courses .now) (c .before .loop .line) (s .args .m) (c .loop-test .left)) (c .before .loop .inv .1))
+    let s = c .before .before .before in
+    storing-end (cables-end (layoutIn (s .args .t3)) (c .before .loop .line) (omega (arith, route-count (s .args .t3) (s .pre .0) (room s)))) (c .before .loop .inv .1)
 
 pub put-cables-spec : {M : Type 1} → statement M
 put-cables-spec =
@@ -80,7 +85,8 @@ put-cables-spec =
     μ-loop
     loop-holds
     cast-put-cable
-    course-at-requires
+    mul-put-cable
+    element-copy-out-put-cable
     put-cable-requires
     add-line
     loop-less

@@ -4,7 +4,7 @@ use mathlib.Core.Path.{ap}
 use borrow.Author.Needs.{needs}
 use Rattle.lists.specs.Select.{oneIf}
 use Rattle.words.specs.Words.{cornerWord}
-use Rattle.layout.specs.Courses.{courseIn}
+use Rattle.layout.specs.Arrays.{courseIn}
 use Rattle.writer.proofs.CornerWords.{returns as returns-to, corner-count, stored-if, corners-stored}
 use Rattle.writer.proofs.sheet.put_corners.Statement.{statement}
 use Rattle.writer.proofs.sheet.put_corners.Tie as tie

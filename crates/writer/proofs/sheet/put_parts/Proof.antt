@@ -1,40 +1,48 @@
 -- The words of the parts that are left go behind those that are written. Assumes nothing.
-use Prim.Native.Nat.{ℕ, _+_, _-_, _≤_}
+use Prim.Native.Nat.{ℕ, _-_, _≤_}
 use native.Mathlib.Omega.{arith}
-use mathlib.Core.Path.{_≡_, sym, ap, _∙_}
-use mathlib.Core.List.{List, [], _∷_}
+use mathlib.Core.Path.{ap, _∙_}
+use mathlib.Core.List.{[], _∷_}
 use lib.ListN.{length}
-use borrow.Author.Needs.{needs}
 use Rattle.lists.proofs.Stores.{stored-as}
-use Rattle.lists.proofs.Storing.{Storing, storing-start, storing-next, storing-end, storing-kept, storing-room}
-use Rattle.writer.specs.Sheet.{partsWords}
-use Rattle.writer.proofs.SheetWords.{parts-next, parts-end, parts-all, length-parts}
+use Rattle.lists.proofs.Storing.{Storing, storing-start, storing-next, storing-end, storing-kept}
+use Rattle.drawing.specs.Sheet.{partSpotWord, partsSection}
+use Rattle.drawing.proofs.WordCounts.{parts-length}
+use Rattle.writer.specs.Values.{numberedIn}
+use Rattle.writer.proofs.Sections.{partsFrom, parts-next, parts-end}
+use Rattle.writer.proofs.Layouts.{number-count, rank-below, number-spot}
 use Rattle.writer.proofs.sheet.put_parts.Statement.{statement}
 use Rattle.writer.proofs.sheet.put_parts.Tie as tie
 
 abbrev Inv-loop : tie.InvT-loop
-Inv-loop sheet₀ at ranks columns bottom next₀ p₀ sheet next p =
-    (p ≤ length ranks) × Storing sheet₀ at (partsWords ranks columns bottom 0 (length ranks - 0)) sheet next (partsWords ranks columns bottom p (length ranks - p))
+Inv-loop sheet₀ at layout ranking n next₀ p₀ sheet next p =
+    (p ≤ n) × Storing sheet₀ at (partsSection (numberedIn ranking layout)) sheet next (partsFrom (numberedIn ranking layout) p)
 
 abbrev μ-loop : tie.MeasureT-loop
-μ-loop sheet₀ at ranks columns bottom next₀ p₀ sheet next p = length ranks - p
+μ-loop sheet₀ at layout ranking n next₀ p₀ sheet next p = n - p
 
 loop-holds : tie.Need-loop-holds Inv-loop μ-loop
+unfolding partsSection
 loop-holds c = (omega arith, storing-start _ _ _)
 
+element-copy-out-part-word : tie.Need-element-copy-out-part-word Inv-loop μ-loop
+element-copy-out-part-word c = omega (arith, c .before .before .before .before .pre .0 .given .most)
+
 part-word-requires : tie.Need-part-word-requires Inv-loop μ-loop
-part-word-requires c κs = (c .before .before .before .before .before .before .pre .0, c .before .loop-test .taken)
+part-word-requires c κs =
+    let s = c .before .before .before .before .before in
+    (s .pre .0, rank-below (s .args .layout) (s .pre .0) (s .args .t3) (s .pre .1 .0) (c .before .before .before .loop .p) (c .before .before .loop-test .taken))
 
 put-requires : tie.Need-put-requires Inv-loop μ-loop
 put-requires c κs =
-    let l = c .before .before .before .loop in
-    let s = c .before .before .before .before .before .before .before in
-    let n = length (s .args .ranks .now) in
-    let size = length-parts (s .args .ranks .now) (s .args .columns .now) (s .args .bottom) in
-    omega (arith, l .inv .1 .place, storing-kept (l .inv .1), size 0 (n - 0), size (l .p) (n - l .p), s .pre .1, c .before .before .loop-test .taken)
+    let l = c .before .before .before .before .loop in
+    let s = c .before .before .before .before .before .before in
+    let n = number-count (s .args .layout) (s .pre .0) (s .args .t3) in
+    let d = numberedIn (s .args .t3) (s .args .layout) in
+    omega (arith, l .inv .1 .place, storing-kept (l .inv .1), s .pre .1 .1, parts-length d, n, ap length (parts-next d (l .p) (omega (arith, n, c .before .before .before .loop-test .taken))))
 
 add-p : tie.Need-add-p Inv-loop μ-loop
-add-p c = omega arith
+add-p c = omega (arith, c .before .before .before .before .before .before .before .before .before .pre .0 .given .most)
 
 loop-less : tie.Need-loop-less Inv-loop μ-loop
 loop-less c = omega arith
@@ -42,11 +50,13 @@ loop-less c = omega arith
 loop-again : tie.Need-loop-again Inv-loop μ-loop
 loop-again c =
     let k = c .before .before in
-    let l = k .before .before .before .before .loop in
-    let s = k .before .before .before .before .before .before .before .before in (
+    let l = k .before .before .before .before .before .loop in
+    let s = k .before .before .before .before .before .before .before in
+    let h = k .before .before .before .before .loop-test .taken in
+    let n = number-count (s .args .layout) (s .pre .0) (s .args .t3) in
+    let e = k .before .part-word .ensures ∙ ap partSpotWord (number-spot (s .args .layout) (s .pre .0) (s .args .t3) (s .pre .1 .0) (l .p) h) in (
       omega arith,
-      storing-next _ (parts-next (s .args .ranks .now) (s .args .columns .now) (s .args .bottom) (l .p) (length (s .args .ranks .now)) (k .before .before .before .loop-test .taken))
-          (stored-as (ap (λ (z : ℕ). z ∷ []) (k .before .part-word .ensures)) (k .put .ensures)) (l .inv .1),
+      storing-next _ (parts-next (numberedIn (s .args .t3) (s .args .layout)) (l .p) (omega (arith, n, h))) (stored-as (ap (λ (z : ℕ). z ∷ []) e) (k .put .ensures)) (l .inv .1),
     )
 
 same-length : tie.Need-same-length Inv-loop μ-loop
@@ -54,9 +64,10 @@ same-length c = storing-kept (c .before .loop .inv .1)
 
 returns : tie.Need-returns Inv-loop μ-loop
 returns c =
-    let s = c .before .before .before .before .before in
-    stored-as (parts-all (s .args .ranks .now) (s .args .columns .now) (s .args .bottom) (length (s .args .ranks .now)))
-    (storing-end (parts-end (s .args .ranks .now) (s .args .columns .now) (s .args .bottom) (c .before .loop .p) (length (s .args .ranks .now)) (c .loop-test .left)) (c .before .loop .inv .1))
+    let s = c .before .before .before in
+    storing-end
+    (parts-end (numberedIn (s .args .t3) (s .args .layout)) (c .before .loop .p) (omega (arith, c .loop-test .left, number-count (s .args .layout) (s .pre .0) (s .args .t3))))
+    (c .before .loop .inv .1)
 
 pub put-parts-spec : {M : Type 1} → statement M
 put-parts-spec =
@@ -65,6 +76,7 @@ put-parts-spec =
     Inv-loop
     μ-loop
     loop-holds
+    element-copy-out-part-word
     part-word-requires
     put-requires
     add-p

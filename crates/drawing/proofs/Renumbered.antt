@@ -1,0 +1,196 @@
+-- A drawing with other numbers of its parts: the same spots, lines, meetings, crossings and counts. Assumes nothing.
+use Prim.Native.Nat.{ℕ, _+_, _<_}
+use native.Mathlib.Omega.{arith}
+use mathlib.Core.Path.{_≡_, refl, sym, ap, ap₂, subst, subst₂, _∙_}
+use mathlib.Core.Bool.{Bool, not, _&&_}
+use mathlib.Core.List.{List, [], _∷_, _++_, map, map-map, List·Memᴰ, List·Memᴰ·head, List·Memᴰ·tail}
+use lib.ListN.{length, getD, length-map}
+use lib.Dec.{eqb, ltb}
+use Rattle.lists.specs.Select.{count, sum, indexOf}
+use Rattle.lists.proofs.Select.{getD-map, length-tabulate, getD-tabulate}
+use Rattle.lists.proofs.Places.{mem-place}
+use Rattle.lists.proofs.Maps.{count-map}
+use Rattle.lists.proofs.Same.{same-eqb, count-same}
+use Rattle.drawing.specs.Spots.{Spot, origin}
+use Rattle.drawing.specs.Lines.{Meetings}
+use Rattle.drawing.specs.Crossing.{linesCross}
+use Rattle.drawing.specs.Drawing.{Route, noRoute, Drawing, spotOf, routePoints, routeAt, pointsAt, Meets}
+use Rattle.drawing.specs.Drawing.{shareEnd, crossPair, crossingsOf, crossings, renumbered}
+use Rattle.drawing.specs.Sheet.{sheetWords}
+use Rattle.drawing.specs.Counts.{cornerCount}
+use Rattle.drawing.proofs.WordCounts.{words-length}
+use Rattle.drawing.proofs.Renaming.{Renames, renamed}
+
+-- Below n each number is the name of one place below n.
+pub record Names (n : ℕ) (names : List ℕ) : Type 0 where
+  pub inside : (p : ℕ) → p < n → indexOf p names < n
+  pub back : (p : ℕ) → p < n → getD names (indexOf p names) 0 ≡ p
+  pub named : (k : ℕ) → k < n → getD names k 0 < n
+  pub place : (k : ℕ) → k < n → indexOf (getD names k 0) names ≡ k
+
+-- a route between two of n parts
+pub record Inside (n : ℕ) (r : Route) : Type 0 where
+  pub first-inside : r .first < n
+  pub last-inside : r .last < n
+
+abbrev pub EndsInside : Drawing → Type 0
+EndsInside d = (r : Route) → List·Memᴰ r (d .routes) → Inside (length (d .parts)) r
+
+module _ (d : Drawing) (M : Meets d) where
+  pub inside-at : (i : ℕ) → i < length (d .routes) → Inside (length (d .parts)) (routeAt d i)
+  inside-at i h = let p = M .parts i h in record { first-inside = p .0; last-inside = p .1 }
+
+  pub ends-inside : EndsInside d
+  unfolding routeAt
+  ends-inside r m =
+      let t = mem-place (d .routes) noRoute m in
+      subst (λ (q : Route). Inside (length (d .parts)) q) (t .2) (inside-at (t .0) (t .1))
+
+module _ (names : List ℕ) where
+  -- a route whose parts are numbered by their names
+  abbrev called : Route → Route
+  called r = record { first = getD names (r .first) 0; last = getD names (r .last) 0; corners = r .corners }
+
+  module _ (d : Drawing) where
+    -- What is kept under any names
+
+    pub width-renumbered : renumbered names d .width ≡ d .width
+    unfolding renumbered
+    width-renumbered = refl
+
+    pub height-renumbered : renumbered names d .height ≡ d .height
+    unfolding renumbered
+    height-renumbered = refl
+
+    pub parts-renumbered : length (renumbered names d .parts) ≡ length (d .parts)
+    unfolding renumbered
+    parts-renumbered = length-tabulate (length (d .parts)) (λ p. spotOf d (indexOf p names))
+
+    routes-called : renumbered names d .routes ≡ map called (d .routes)
+    unfolding renumbered
+    routes-called = refl
+
+    pub routes-renumbered : length (renumbered names d .routes) ≡ length (d .routes)
+    routes-renumbered = rw routes-called (length-map (d .routes) called)
+
+    pub spot-renumbered : (p : ℕ) → p < length (d .parts) → spotOf (renumbered names d) p ≡ spotOf d (indexOf p names)
+    unfolding renumbered spotOf
+    spot-renumbered p h = getD-tabulate (length (d .parts)) (λ q. getD (d .parts) (indexOf q names) origin) p origin h
+
+    pub route-renumbered :
+        (i : ℕ) → i < length (d .routes)
+        → routeAt (renumbered names d) i
+        ≡ record { first = getD names (routeAt d i .first) 0; last = getD names (routeAt d i .last) 0; corners = routeAt d i .corners }
+    unfolding renumbered routeAt
+    route-renumbered i h = getD-map called (d .routes) i noRoute noRoute h
+
+    pub first-renumbered : (i : ℕ) → i < length (d .routes) → routeAt (renumbered names d) i .first ≡ getD names (routeAt d i .first) 0
+    first-renumbered i h = ap (λ (r : Route). r .first) (route-renumbered i h)
+
+    pub last-renumbered : (i : ℕ) → i < length (d .routes) → routeAt (renumbered names d) i .last ≡ getD names (routeAt d i .last) 0
+    last-renumbered i h = ap (λ (r : Route). r .last) (route-renumbered i h)
+
+    pub corners-renumbered : (i : ℕ) → i < length (d .routes) → routeAt (renumbered names d) i .corners ≡ routeAt d i .corners
+    corners-renumbered i h = ap (λ (r : Route). r .corners) (route-renumbered i h)
+
+    -- any function of the corners, by line, and any test of them, counted
+    pub map-renumbered :
+        {A : Type 0} (f : List Spot → A) → map (λ r. f (r .corners)) (renumbered names d .routes) ≡ map (λ r. f (r .corners)) (d .routes)
+    map-renumbered f = rw routes-called (map-map (λ (r : Route). f (r .corners)) called (d .routes))
+
+    pub count-renumbered :
+        (p : List Spot → Bool) → count (λ r. p (r .corners)) (renumbered names d .routes) ≡ count (λ r. p (r .corners)) (d .routes)
+    count-renumbered p = rw routes-called (count-map (λ (r : Route). p (r .corners)) called (d .routes))
+
+    pub bends-renumbered :
+        count (λ r. ltb 2 (length (r .corners))) (renumbered names d .routes) ≡ count (λ r. ltb 2 (length (r .corners))) (d .routes)
+    bends-renumbered = count-renumbered (λ (l : List Spot). ltb 2 (length l))
+
+    pub corner-count-renumbered : cornerCount (renumbered names d .routes) ≡ cornerCount (d .routes)
+    corner-count-renumbered = ap sum (map-renumbered (λ (l : List Spot). length l))
+
+    pub length-renumbered : length (sheetWords (renumbered names d)) ≡ length (sheetWords d)
+    length-renumbered =
+        omega (arith, words-length (renumbered names d), words-length d, parts-renumbered, routes-renumbered, corner-count-renumbered)
+
+    -- What is kept where no two parts have one name
+
+    module _ (N : Names (length (d .parts)) names) where
+      -- each part stands where it stood
+      end-renumbered : (k : ℕ) → k < length (d .parts) → spotOf (renumbered names d) (getD names k 0) ≡ spotOf d k
+      end-renumbered k h = spot-renumbered (getD names k 0) (N .named k h) ∙ ap (spotOf d) (N .place k h)
+
+      called-points : (r : Route) → Inside (length (d .parts)) r → routePoints (renumbered names d) (called r) ≡ routePoints d r
+      unfolding routePoints
+      called-points r I =
+          ap₂ (λ (p q : Spot). p ∷ (r .corners ++ q ∷ [])) (end-renumbered (r .first) (I .first-inside)) (end-renumbered (r .last) (I .last-inside))
+
+      pub points-renumbered : Meets d → (i : ℕ) → i < length (d .routes) → pointsAt (renumbered names d) i ≡ pointsAt d i
+      unfolding pointsAt
+      points-renumbered M i h = ap (routePoints (renumbered names d)) (route-renumbered i h) ∙ called-points (routeAt d i) (inside-at d M i h)
+
+      -- Meetings
+
+      renames :
+          Meets d
+          → Renames (length (d .parts)) (length (d .routes)) (spotOf d) (λ i. routeAt d i .first) (λ i. routeAt d i .last) (pointsAt d)
+          (λ p. indexOf p names) (spotOf (renumbered names d))
+          (λ i. routeAt (renumbered names d) i .first) (λ i. routeAt (renumbered names d) i .last) (pointsAt (renumbered names d))
+      renames M = record {
+        inside = N .inside;
+        one = λ p q g h e. sym (N .back p g) ∙ ap (λ (k : ℕ). getD names k 0) e ∙ N .back q h;
+        spots = spot-renumbered;
+        first-inside = λ i h. omega (arith, first-renumbered i h, N .named (routeAt d i .first) (inside-at d M i h .first-inside));
+        last-inside = λ i h. omega (arith, last-renumbered i h, N .named (routeAt d i .last) (inside-at d M i h .last-inside));
+        first-rank = λ i h. ap (λ (p : ℕ). indexOf p names) (first-renumbered i h) ∙ N .place (routeAt d i .first) (inside-at d M i h .first-inside);
+        last-rank = λ i h. ap (λ (p : ℕ). indexOf p names) (last-renumbered i h) ∙ N .place (routeAt d i .last) (inside-at d M i h .last-inside);
+        same = λ i h. sym (points-renumbered M i h);
+      }
+
+      pub meets-renumbered : Meets d → Meets (renumbered names d)
+      meets-renumbered M =
+          subst₂
+          (λ (a b : ℕ).
+          Meetings a b (spotOf (renumbered names d)) (λ i. routeAt (renumbered names d) i .first) (λ i. routeAt (renumbered names d) i .last)
+          (pointsAt (renumbered names d)))
+          (sym parts-renumbered) (sym routes-renumbered)
+          (renamed _ _ _ _ _ _ _ _ _ _ _ (renames M) M)
+
+      -- Crossings
+
+      same-part : (j k : ℕ) → j < length (d .parts) → k < length (d .parts) → eqb (getD names j 0) (getD names k 0) ≡ eqb j k
+      same-part j k g h =
+          same-eqb _ _ j k (λ e. sym (N .place j g) ∙ ap (λ (p : ℕ). indexOf p names) e ∙ N .place k h) (ap (λ (p : ℕ). getD names p 0))
+
+      same-ends : (r q : Route) → Inside (length (d .parts)) r → Inside (length (d .parts)) q → shareEnd (called r) (called q) ≡ shareEnd r q
+      unfolding shareEnd
+      same-ends r q I J =
+          rw (
+            same-part (r .first) (q .first) (I .first-inside) (J .first-inside),
+            same-part (r .first) (q .last) (I .first-inside) (J .last-inside),
+            same-part (r .last) (q .first) (I .last-inside) (J .first-inside),
+            same-part (r .last) (q .last) (I .last-inside) (J .last-inside),
+          )
+          refl
+
+      same-pair :
+          (r q : Route) → Inside (length (d .parts)) r → Inside (length (d .parts)) q
+          → crossPair (renumbered names d) (called r) (called q) ≡ crossPair d r q
+      unfolding crossPair
+      same-pair r q I J =
+          ap₂ (λ (a b : Bool). not a && b) (same-ends r q I J) (ap₂ linesCross (called-points r I) (called-points q J))
+
+      same-crossings :
+          (rs : List Route) → ((r : Route) → List·Memᴰ r rs → Inside (length (d .parts)) r)
+          → crossingsOf (renumbered names d) (map called rs) ≡ crossingsOf d rs
+      unfolding crossingsOf
+      same-crossings [] I = refl
+      same-crossings (r ∷ rs) I =
+          ap₂ (λ (a b : ℕ). a + b)
+          (count-map (crossPair (renumbered names d) (called r)) called rs
+          ∙ count-same _ _ rs (λ q m. same-pair r q (I r (List·Memᴰ·head refl)) (I q (List·Memᴰ·tail m))))
+          (same-crossings rs (λ q m. I q (List·Memᴰ·tail m)))
+
+      pub crossings-renumbered : Meets d → crossings (renumbered names d) ≡ crossings d
+      unfolding crossings
+      crossings-renumbered M = ap (crossingsOf (renumbered names d)) routes-called ∙ same-crossings (d .routes) (ends-inside d M)

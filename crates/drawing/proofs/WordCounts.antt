@@ -1,0 +1,127 @@
+-- How many words a drawing has, section by section, and how many of them are corners. Assumes nothing.
+use Prim.Native.Nat.{ℕ, suc, _+_, _<_, _≤_}
+use native.Mathlib.Omega.{arith}
+use mathlib.Core.Path.{_≡_, refl, sym, ap, _∙_}
+use mathlib.Core.Bool.{true, false}
+use mathlib.Core.List.{List, [], _∷_, _++_, map}
+use lib.ListN.{length, getD, length-append, length-map}
+use borrow.Author.Tests.{eq-eqb, ne-eqb}
+use Rattle.lists.specs.Select.{count, oneIf, sum}
+use Rattle.lists.proofs.Sums.{count-append}
+use Rattle.words.specs.Words.{kindOf, sheetHead, sheetHeadWord, part, sheetCable, sheetCableWord, corner}
+use Rattle.words.proofs.Words.{fields-apart, sheetCable-apart}
+use Rattle.drawing.specs.Spots.{Spot}
+use Rattle.drawing.specs.Drawing.{Route, noRoute, Drawing}
+use Rattle.drawing.specs.Sheet.{partSpotWord, cornerSpotWord, routeWords, routesWords, headSection, partsSection, cablesSection, sheetWords}
+use Rattle.drawing.specs.Reading.{Ends, noEnds}
+use Rattle.drawing.specs.Counts.{cornerCount, isCorner}
+use Rattle.drawing.proofs.ReadBack.{SpotFits, AllFit, RouteFits, DrawingFits}
+
+-- The length
+
+pub route-length : (line : ℕ) (r : Route) → length (routeWords line r) ≡ 1 + length (r .corners)
+unfolding routeWords
+route-length line r = omega (arith, length-map (r .corners) cornerSpotWord)
+
+pub routes-length : (line : ℕ) (rs : List Route) → length (routesWords line rs) ≡ length rs + cornerCount rs
+unfolding routesWords sum
+routes-length line [] = refl
+routes-length line (r ∷ rs) =
+    omega (arith, length-append (routeWords line r) (routesWords (line + 1) rs), route-length line r, routes-length (line + 1) rs)
+
+pub head-length : (d : Drawing) → length (headSection d) ≡ 1
+unfolding headSection
+head-length d = refl
+
+pub parts-length : (d : Drawing) → length (partsSection d) ≡ length (d .parts)
+unfolding partsSection
+parts-length d = length-map (d .parts) partSpotWord
+
+pub cables-length : (d : Drawing) → length (cablesSection d) ≡ length (d .routes) + cornerCount (d .routes)
+unfolding cablesSection
+cables-length d = routes-length 0 (d .routes)
+
+pub words-length : (d : Drawing) → length (sheetWords d) ≡ 1 + length (d .parts) + length (d .routes) + cornerCount (d .routes)
+unfolding sheetWords
+words-length d =
+    let all = length-append (headSection d) (partsSection d ++ cablesSection d) in
+    omega (arith, all, length-append (partsSection d) (cablesSection d), head-length d, parts-length d, cables-length d)
+
+-- The corners
+
+no-corner : (kind w : ℕ) → kindOf w ≡ kind → (kind ≡ corner → ⊥) → isCorner w ≡ false
+no-corner kind w e n = ne-eqb (kindOf w) corner (λ q. n (sym e ∙ q))
+
+count-none :
+    (word : Spot → ℕ) → ((s : Spot) → SpotFits s → isCorner (word s) ≡ false)
+    → (l : List Spot) → AllFit l → count isCorner (map word l) ≡ 0
+unfolding count
+count-none word b [] f = refl
+count-none word b (s ∷ l) f = omega (arith, ap oneIf (b s (f 0 (omega arith))), count-none word b l (λ k h. f (suc k) (omega arith)))
+
+count-every :
+    (word : Spot → ℕ) → ((s : Spot) → SpotFits s → isCorner (word s) ≡ true)
+    → (l : List Spot) → AllFit l → count isCorner (map word l) ≡ length l
+unfolding count
+count-every word b [] f = refl
+count-every word b (s ∷ l) f = omega (arith, ap oneIf (b s (f 0 (omega arith))), count-every word b l (λ k h. f (suc k) (omega arith)))
+
+part-no-corner : (s : Spot) → SpotFits s → isCorner (partSpotWord s) ≡ false
+unfolding partSpotWord
+part-no-corner s f =
+    no-corner part (partSpotWord s) (fields-apart part (s .x) (s .y) (omega arith) (f .x-fits) (f .y-fits) .kind-is) (λ e. omega arith)
+
+corner-corner : (s : Spot) → SpotFits s → isCorner (cornerSpotWord s) ≡ true
+unfolding cornerSpotWord
+corner-corner s f =
+    eq-eqb (kindOf (cornerSpotWord s)) corner (fields-apart corner (s .x) (s .y) (omega arith) (f .x-fits) (f .y-fits) .kind-is)
+
+route-corners :
+    (line : ℕ) (r : Route) → line < 65536 → length (r .corners) < 4096 → AllFit (r .corners)
+    → count isCorner (routeWords line r) ≡ length (r .corners)
+unfolding routeWords count
+route-corners line r h few f =
+    let w : ℕ = sheetCableWord line (length (r .corners)) in
+    omega (
+      arith,
+      ap oneIf (no-corner sheetCable w (sheetCable-apart line (length (r .corners)) h few .kind-is) (λ e. omega arith)),
+      count-every cornerSpotWord corner-corner (r .corners) f,
+    )
+
+routes-corners :
+    (es : List Ends) (rs : List Route) (line : ℕ) → length rs ≡ length es → line + length es ≤ 65536
+    → ((i : ℕ) → i < length es → RouteFits (getD es i noEnds) (getD rs i noRoute)) → count isCorner (routesWords line rs) ≡ cornerCount rs
+unfolding routesWords sum count
+routes-corners [] [] line e h f = refl
+routes-corners [] (r ∷ rs) line e h f = absurd (omega arith)
+routes-corners (c ∷ cs) [] line e h f = absurd (omega arith)
+routes-corners (c ∷ cs) (r ∷ rs) line e h f =
+    let fit : RouteFits c r = f 0 (omega arith) in
+    omega (
+      arith,
+      count-append isCorner (routeWords line r) (routesWords (line + 1) rs),
+      route-corners line r (omega arith) (fit .few) (fit .corners-fit),
+      routes-corners cs rs (line + 1) (omega arith) (omega arith) (λ i g. f (suc i) (omega arith)),
+    )
+
+module _ (n : ℕ) (ends : List Ends) (d : Drawing) (F : DrawingFits n ends d) where
+  pub head-corners : count isCorner (headSection d) ≡ 0
+  unfolding headSection count
+  head-corners =
+      let w : ℕ = sheetHeadWord (d .width) (d .height) in
+      let a = fields-apart sheetHead (d .width) (d .height) (omega arith) (F .width-fits) (F .height-fits) in
+      omega (arith, ap oneIf (no-corner sheetHead w (a .kind-is) (λ e. omega arith)))
+
+  pub parts-corners : count isCorner (partsSection d) ≡ 0
+  unfolding partsSection
+  parts-corners = count-none partSpotWord part-no-corner (d .parts) (F .parts-fit)
+
+  pub cables-corners : length ends ≤ 65536 → count isCorner (cablesSection d) ≡ cornerCount (d .routes)
+  unfolding cablesSection
+  cables-corners h = routes-corners ends (d .routes) 0 (F .routes-count) (omega arith) (F .routes-fit)
+
+  pub words-corners : length ends ≤ 65536 → count isCorner (sheetWords d) ≡ cornerCount (d .routes)
+  unfolding sheetWords
+  words-corners h =
+      let all = count-append isCorner (headSection d) (partsSection d ++ cablesSection d) in
+      omega (arith, all, count-append isCorner (partsSection d) (cablesSection d), head-corners, parts-corners, cables-corners h)

@@ -1,0 +1,44 @@
+-- Small drawings: document 01's triangle as words and read back, and lines that cross. Assumes nothing.
+use Prim.Native.Nat.{ℕ}
+use mathlib.Core.Path.{_≡_, refl}
+use mathlib.Core.List.{List, [], _∷_}
+use Rattle.lists.specs.Select.{upFrom, range, any, count}
+use Rattle.drawing.specs.Spots.{Spot, sameSpot, spotAt}
+use Rattle.drawing.specs.Lines.{point}
+use Rattle.drawing.specs.Crossing.{between, meetingSpot, runsCross, crossesOver, linesCross}
+use Rattle.drawing.specs.Drawing.{Route, Drawing, spotOf, routePoints, shareEnd, crossPair, crossingsOf, crossings}
+use Rattle.drawing.specs.Sheet.{partSpotWord, cornerSpotWord, routeWords, routesWords, headSection, partsSection, cablesSection, sheetWords}
+use Rattle.drawing.specs.Reading.{Ends, wordSpot, routesIn, drawingIn}
+
+abbrev route : ℕ → ℕ → List Spot → Route
+route a b corners = record { first = a; last = b; corners = corners }
+
+abbrev ends : ℕ → ℕ → Ends
+ends a b = record { first = a; last = b }
+
+abbrev triangle : Drawing
+triangle = record {
+  width = 1;
+  height = 2;
+  parts = spotAt 0 0 ∷ spotAt 0 1 ∷ spotAt 0 2 ∷ [];
+  routes = route 0 1 [] ∷ route 1 2 [] ∷ route 0 2 (spotAt 1 0 ∷ spotAt 1 2 ∷ []) ∷ [];
+}
+
+abbrev nine : List ℕ
+nine = 0x40001002 ∷ 0x50000000 ∷ 0x50000001 ∷ 0x50000002 ∷ 0x60000000 ∷ 0x60001000 ∷ 0x60002002 ∷ 0x70001000 ∷ 0x70001002 ∷ []
+
+-- a level line from part 0 to part 1, and one that goes up over it
+abbrev over : Route → Drawing
+over r = record { width = 2; height = 2; parts = spotAt 0 1 ∷ spotAt 2 1 ∷ spotAt 1 0 ∷ spotAt 1 2 ∷ []; routes = route 0 1 [] ∷ r ∷ [] }
+
+record Worked : Type 0 where
+  triangle-words : sheetWords triangle ≡ nine
+  triangle-read : drawingIn 3 (ends 0 1 ∷ ends 1 2 ∷ ends 0 2 ∷ []) nine ≡ triangle
+  -- 'the pairs of cables with no part in common whose lines cross'
+  crossed : crossings (over (route 2 3 [])) ≡ 1
+  -- this one ends at part 0
+  joined : crossings (over (route 2 0 (spotAt 1 2 ∷ spotAt 0 2 ∷ []))) ≡ 0
+
+worked : Worked
+unfolding upFrom range any count sameSpot point between meetingSpot runsCross crossesOver linesCross spotOf routePoints shareEnd crossPair crossingsOf crossings partSpotWord cornerSpotWord routeWords routesWords headSection partsSection cablesSection sheetWords wordSpot routesIn drawingIn
+worked = record { triangle-words = refl; triangle-read = refl; crossed = refl; joined = refl }

@@ -1,0 +1,17 @@
+-- Corners, counted in a drawing and told among words. Assumes nothing.
+use Prim.Native.Nat.{ℕ}
+use mathlib.Core.Bool.{Bool}
+use mathlib.Core.List.{List, map}
+use lib.ListN.{length}
+use lib.Dec.{eqb}
+use Rattle.lists.specs.Select.{sum}
+use Rattle.words.specs.Words.{kindOf, corner}
+use Rattle.drawing.specs.Drawing.{Route}
+
+-- the corners of all routes, counted
+abbrev pub cornerCount : List Route → ℕ
+cornerCount rs = sum (map (λ r. length (r .corners)) rs)
+
+-- 'Corners are counted as kind 7 words'
+abbrev pub isCorner : ℕ → Bool
+isCorner w = eqb (kindOf w) corner

@@ -1,0 +1,38 @@
+-- Document 01: 'A sheet is its head, the parts by number, then the cables by line, each followed by its corners from the lower-ranked end upward.'
+-- The words of a drawing, section by section. Assumes nothing.
+use Prim.Native.Nat.{ℕ, _+_}
+use mathlib.Core.List.{List, [], _∷_, _++_, map}
+use lib.ListN.{length}
+use Rattle.words.specs.Words.{sheetHeadWord, partWord, sheetCableWord, cornerWord}
+use Rattle.drawing.specs.Spots.{Spot}
+use Rattle.drawing.specs.Drawing.{Route, Drawing}
+
+unfoldable pub partSpotWord : Spot → ℕ
+partSpotWord p = partWord (p .x) (p .y)
+
+unfoldable pub cornerSpotWord : Spot → ℕ
+cornerSpotWord p = cornerWord (p .x) (p .y)
+
+-- a cable's own words, head and corners
+unfoldable pub routeWords : ℕ → Route → List ℕ
+routeWords line r = sheetCableWord line (length (r .corners)) ∷ map cornerSpotWord (r .corners)
+
+-- the words of the cables from a line on
+unfoldable pub routesWords : ℕ → List Route → List ℕ
+routesWords line [] = []
+routesWords line (r ∷ rs) = routeWords line r ++ routesWords (line + 1) rs
+
+-- The sections
+
+unfoldable pub headSection : Drawing → List ℕ
+headSection d = sheetHeadWord (d .width) (d .height) ∷ []
+
+unfoldable pub partsSection : Drawing → List ℕ
+partsSection d = map partSpotWord (d .parts)
+
+unfoldable pub cablesSection : Drawing → List ℕ
+cablesSection d = routesWords 0 (d .routes)
+
+-- the sections of a sheet, in their sequence
+unfoldable pub sheetWords : Drawing → List ℕ
+sheetWords d = headSection d ++ (partsSection d ++ cablesSection d)

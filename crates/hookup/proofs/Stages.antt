@@ -1,0 +1,63 @@
+-- The stages' values in a row: the layout of a list's cables in ranks stands for the drawing of its station. Assumes nothing.
+use Prim.Native.Nat.{ℕ, _<_, _≤_}
+use native.Mathlib.Omega.{arith}
+use mathlib.Core.Path.{_≡_, sym, ap, ap₂, subst, _∙_}
+use mathlib.Core.List.{List}
+use lib.ListN.{length, getD}
+use Rattle.station.specs.Station.{stationOf}
+use Rattle.station.specs.Checks.{passed}
+use Rattle.order.specs.Order.{order, rankIn}
+use Rattle.order.specs.Verdict.{verdict10}
+use Rattle.order.specs.Graph.{StGraph, Ranked}
+use Rattle.order.specs.Ends.{graphOf}
+use Rattle.order.specs.Ranking.{RankingOf, namesIn, Inverse}
+use Rattle.order.specs.Arrays.{graphIn}
+use Rattle.order.specs.declared.Ranking.{Ranking}
+use Rattle.order.specs.declared.Graph.{Graph}
+use Rattle.order.proofs.Ranks.{graph-parts, rank-below}
+use Rattle.drawing.specs.Drawing.{Drawing, crossings, renumbered}
+use Rattle.drawing.specs.Sheet.{sheetWords}
+use Rattle.layout.specs.Layout.{layout}
+use Rattle.layout.specs.Arrays.{Given}
+use Rattle.hookup.specs.Drawing.{drawing}
+use Rattle.hookup.proofs.Drawn.{Sound, is-renumbered, crossings-are, length-is}
+use Rattle.hookup.proofs.Demand3.{sound}
+
+module _ (list : List ℕ) (pass : verdict10 list ≡ passed) where
+  -- the layout may start from the cables in ranks
+  pub given : {g : Graph} → graphIn g ≡ graphOf (stationOf list) → g .cables ≤ 512 → Given g
+  given {g} e few =
+      let n : g .parts ≡ stationOf list .parts = ap (λ (G : StGraph). G .parts) e ∙ graph-parts (stationOf list) in
+      record {
+        ranked = subst Ranked (sym e) (sound list pass .ranked);
+        cables = few;
+        least = omega (arith, sound list pass .three);
+        most = omega (arith, sound list pass .most);
+      }
+
+  module _ (g : Graph) (e : graphIn g ≡ graphOf (stationOf list)) where
+    count : g .parts ≡ stationOf list .parts
+    count = ap (λ (G : StGraph). G .parts) e ∙ graph-parts (stationOf list)
+
+    pub words-are : length (sheetWords (layout (graphIn g))) ≡ length (sheetWords (drawing (stationOf list)))
+    words-are = ap (λ (G : StGraph). length (sheetWords (layout G))) e ∙ length-is (stationOf list) (sound list pass)
+
+    pub crossings-counted : crossings (layout (graphIn g)) ≡ crossings (drawing (stationOf list))
+    crossings-counted = ap (λ (G : StGraph). crossings (layout G)) e ∙ crossings-are (stationOf list) (sound list pass)
+
+    module _ {r : Ranking} (K : RankingOf (stationOf list) r) where
+      names-are : namesIn (g .parts) r ≡ order (stationOf list)
+      names-are = ap (λ (n : ℕ). namesIn n r) count ∙ K .part
+
+      pub inverse : Inverse (g .parts) r
+      inverse = record {
+        below = λ p h.
+            let b : p < stationOf list .parts = omega (arith, count) in
+            omega (arith, K .rank p b, rank-below (stationOf list) (sound list pass .orderable) p b, count);
+        rank = λ p h. K .rank p (omega (arith, count)) ∙ ap (λ (l : List ℕ). rankIn l p) (sym names-are);
+      }
+
+      pub sheet-is : sheetWords (renumbered (namesIn (g .parts) r) (layout (graphIn g))) ≡ sheetWords (drawing (stationOf list))
+      sheet-is =
+          ap₂ (λ (l : List ℕ) (G : StGraph). sheetWords (renumbered l (layout G))) names-are e
+          ∙ sym (ap (λ (d : Drawing). sheetWords d) (is-renumbered (stationOf list)))

@@ -1,0 +1,330 @@
+-- The layout of an st-graph as a drawing: its parts and routes, how they meet, its sizes, its words and its crossings. Assumes nothing.
+use Prim.Native.Nat.{ℕ, zero, suc, _+_, _-_, _*_, _<_, _≤_}
+use native.Mathlib.Omega.{arith}
+use mathlib.Core.Path.{_≡_, refl, sym, ap, ap₂, subst, subst₂, _∙_}
+use mathlib.Core.Logic.{_⊎_, ⊎-elim}
+use mathlib.Core.Bool.{Bool, not, _&&_, _||_}
+use mathlib.Core.List.{List, [], _∷_, _++_, map, List·Memᴰ, List·Memᴰ·head, List·Memᴰ·tail, Memᴰ·append-left}
+use lib.ListN.{length, getD}
+use lib.Dec.{eqb, ltb}
+use Rattle.lists.specs.Select.{range, tabulate, count, sum, oneIf}
+use Rattle.lists.specs.Pairs.{pairs}
+use Rattle.lists.proofs.Select.{getD-mem, getD-tabulate, length-tabulate}
+use Rattle.lists.proofs.Places.{mem-place, first-between-last}
+use Rattle.lists.proofs.Maps.{map-tabulate, count-tabulate}
+use Rattle.lists.proofs.Pairs.{pairs-ext}
+use Rattle.lists.proofs.Same.{same-eqb}
+use Rattle.order.specs.Graph.{StGraph, size, lower, upper, linesAt, Ranked}
+use Rattle.order.proofs.Graphs.{cables-le}
+use Rattle.drawing.specs.Spots.{Spot, origin}
+use Rattle.drawing.specs.Lines.{point, Meetings}
+use Rattle.drawing.specs.Crossing.{linesCross}
+use Rattle.drawing.specs.Drawing.{Route, noRoute, Drawing, spotOf, routePoints, routeAt, pointsAt, Meets, shareEnd, crossPair, crossings}
+use Rattle.drawing.specs.Sheet.{sheetWords}
+use Rattle.drawing.specs.Reading.{Ends, noEnds}
+use Rattle.drawing.specs.Counts.{cornerCount, isCorner}
+use Rattle.drawing.specs.Sizes.{Sizes}
+use Rattle.drawing.proofs.Renaming.{renamed}
+use Rattle.drawing.proofs.ReadBack.{SpotFits, AllFit, RouteFits, DrawingFits}
+use Rattle.drawing.proofs.WordCounts.{words-length, words-corners}
+use Rattle.drawing.proofs.Crossings.{crossings-pairs}
+use Rattle.layout.specs.Columns.{columns}
+use Rattle.layout.specs.Points.{Course, turns, pointsOf, inner, cornersOf, bottomRows, topRows, row, partSpot, course, rankSpot, courseOf}
+use Rattle.layout.specs.Layout.{drawnIn, layout}
+use Rattle.layout.specs.Over.{over}
+use Rattle.layout.proofs.Turns.{turns-points}
+use Rattle.layout.proofs.Rows.{bottomRows-le, topRows-le}
+use Rattle.layout.proofs.Placed.{facts}
+use Rattle.layout.proofs.Meet.{meetings}
+use Rattle.layout.proofs.Cross.{linesCross-over}
+use Rattle.layout.proofs.Sizes.{part-column-below, rising, corners-four, corners-many-count, spots-within, points-within, columns-count, corners-sum, width-spot, height-spot}
+
+-- on plain numbers: the count of columns is one more than the width, the count of rows one more than the height
+width-number : (c n m : ℕ) → c + n ≡ m + 2 → 0 < c → suc (m + 1 - n) ≡ c
+width-number c n m e h = omega arith
+
+height-number : (n d e : ℕ) → 2 ≤ n → suc (n - 1 + d + e) ≡ n + d + e
+height-number n d e h = omega arith
+
+-- a course goes up, and every number of it that is written fits a 12-bit field
+pub record CourseFits (c : Course) : Type 0 where
+  pub rises : c .low < c .high
+  pub from : c .from .x < 4096
+  pub low : c .low < 4096
+  pub column : c .column < 4096
+  pub high : c .high < 4096
+  pub to : c .to .x < 4096
+
+module _ (G : StGraph) where
+  -- the cable at line i as it is drawn, and its two ranks
+  abbrev pub routeOf : ℕ → Route
+  routeOf i = record { first = lower G i; last = upper G i; corners = cornersOf (courseOf G i) }
+
+  abbrev pub endsOf : ℕ → Ends
+  endsOf i = record { first = lower G i; last = upper G i }
+
+  pub parts-count : length (layout G .parts) ≡ G .parts
+  unfolding layout drawnIn
+  parts-count = length-tabulate (G .parts) _
+
+  pub routes-are : layout G .routes ≡ tabulate (size G) routeOf
+  unfolding layout drawnIn courseOf
+  routes-are = refl
+
+  pub routes-count : length (layout G .routes) ≡ size G
+  routes-count = ap length routes-are ∙ length-tabulate (size G) _
+
+  pub spot-of : (k : ℕ) → k < G .parts → spotOf (layout G) k ≡ rankSpot G k
+  unfolding spotOf layout drawnIn rankSpot
+  spot-of k h = getD-tabulate (G .parts) _ k origin h
+
+  pub route-at : (i : ℕ) → i < size G → routeAt (layout G) i ≡ routeOf i
+  unfolding routeAt
+  route-at i h = ap (λ (l : List Route). getD l i noRoute) routes-are ∙ getD-tabulate (size G) _ i noRoute h
+
+  -- the corners of all routes
+  corner-count : cornerCount (layout G .routes) ≡ sum (tabulate (size G) (λ i. length (cornersOf (courseOf G i))))
+  corner-count = ap cornerCount routes-are ∙ ap sum (map-tabulate (λ (r : Route). length (r .corners)) (size G) routeOf)
+
+  bends-count : count (λ r. ltb 2 (length (r .corners))) (layout G .routes) ≡ count (λ i. ltb 2 (length (cornersOf (courseOf G i)))) (range (size G))
+  bends-count =
+      ap (count (λ (r : Route). ltb 2 (length (r .corners)))) routes-are ∙ count-tabulate (λ (r : Route). ltb 2 (length (r .corners))) (size G) routeOf
+
+module _ (G : StGraph) (R : Ranked G) where
+  abbrev line : ℕ → List Spot
+  line i = pointsOf (courseOf G i)
+
+  -- Meetings
+
+  by-rank : Meetings (G .parts) (size G) (rankSpot G) (lower G) (upper G) line
+  unfolding rankSpot partSpot courseOf course
+  by-rank = meetings G _ _ _ _ _ (facts G R)
+
+  lower-inside : (i : ℕ) → i < size G → lower G i < G .parts
+  lower-inside i h = omega (arith, R .rises i h, R .inside i h)
+
+  first-at : (i : ℕ) → i < size G → routeAt (layout G) i .first ≡ lower G i
+  first-at i h = ap (λ (r : Route). r .first) (route-at G i h)
+
+  last-at : (i : ℕ) → i < size G → routeAt (layout G) i .last ≡ upper G i
+  last-at i h = ap (λ (r : Route). r .last) (route-at G i h)
+
+  corners-at : (i : ℕ) → i < size G → routeAt (layout G) i .corners ≡ cornersOf (courseOf G i)
+  corners-at i h = ap (λ (r : Route). r .corners) (route-at G i h)
+
+  first-spot : (i : ℕ) → i < size G → spotOf (layout G) (routeAt (layout G) i .first) ≡ rankSpot G (lower G i)
+  first-spot i h = ap (spotOf (layout G)) (first-at i h) ∙ spot-of G (lower G i) (lower-inside i h)
+
+  last-spot : (i : ℕ) → i < size G → spotOf (layout G) (routeAt (layout G) i .last) ≡ rankSpot G (upper G i)
+  last-spot i h = ap (spotOf (layout G)) (last-at i h) ∙ spot-of G (upper G i) (R .inside i h)
+
+  -- the points of a cable are those of its course
+  pub points-at : (i : ℕ) → i < size G → line i ≡ pointsAt (layout G) i
+  unfolding pointsAt routePoints cornersOf inner point
+  points-at i h =
+      let d : Drawing = layout G in
+      sym (first-between-last (line i) (spotOf d (routeAt d i .first)) (spotOf d (routeAt d i .last)) origin
+      (by-rank .two i h) (by-rank .starts i h ∙ sym (first-spot i h)) (λ k e. by-rank .ends i k h e ∙ sym (last-spot i h)))
+      ∙ ap (λ (l : List Spot). spotOf d (routeAt d i .first) ∷ (l ++ spotOf d (routeAt d i .last) ∷ [])) (sym (corners-at i h))
+
+  pub meets : Meets (layout G)
+  meets =
+      subst₂ (λ (n m : ℕ). Meetings n m (spotOf (layout G)) (λ i. routeAt (layout G) i .first) (λ i. routeAt (layout G) i .last) (pointsAt (layout G)))
+      (sym (parts-count G)) (sym (routes-count G))
+      (renamed (G .parts) (size G) (rankSpot G) (lower G) (upper G) line
+      (λ k. k) (spotOf (layout G)) (λ i. routeAt (layout G) i .first) (λ i. routeAt (layout G) i .last) (pointsAt (layout G))
+      (record {
+        inside = λ k h. h;
+        one = λ j k h g e. e;
+        spots = spot-of G;
+        first-inside = λ i h. omega (arith, first-at i h, lower-inside i h);
+        last-inside = λ i h. omega (arith, last-at i h, R .inside i h);
+        first-rank = first-at;
+        last-rank = last-at;
+        same = points-at;
+      })
+      by-rank)
+
+  -- Crossings, by the test on numbers
+
+  lines-over :
+      (a b : ℕ) → a < size G → b < size G → (a ≡ b → ⊥)
+      → linesCross (line a) (line b) ≡ (over (courseOf G a) (courseOf G b) || over (courseOf G b) (courseOf G a))
+  unfolding courseOf course rankSpot partSpot
+  lines-over a b h g d = linesCross-over G _ _ _ _ _ (facts G R) a b h g d
+
+  cross-lines :
+      (a b : ℕ) → a < b → b < size G
+      → crossPair (layout G) (routeOf G a) (routeOf G b)
+      ≡ (not (shareEnd (routeOf G a) (routeOf G b)) && (over (courseOf G a) (courseOf G b) || over (courseOf G b) (courseOf G a)))
+  unfolding crossPair pointsAt
+  cross-lines a b h g =
+      let f : a < size G = omega arith in
+      ap (λ (x : Bool). not (shareEnd (routeOf G a) (routeOf G b)) && x)
+      (ap₂ linesCross
+      (ap (routePoints (layout G)) (sym (route-at G a f)) ∙ sym (points-at a f))
+      (ap (routePoints (layout G)) (sym (route-at G b g)) ∙ sym (points-at b g))
+      ∙ lines-over a b f g (λ e. omega arith))
+
+  pub crossings-over :
+      crossings (layout G)
+      ≡ pairs (λ a b. not (shareEnd (routeOf G a) (routeOf G b)) && (over (courseOf G a) (courseOf G b) || over (courseOf G b) (courseOf G a))) 0 (size G)
+  crossings-over =
+      crossings-pairs (layout G) (routeOf G) (size G) (routes-are G)
+      ∙ pairs-ext _ _ 0 (size G) (λ a b l h g. cross-lines a b h (omega arith))
+
+  -- every rank has a row of its own
+  pub same-row : (j k : ℕ) → eqb (row G j) (row G k) ≡ eqb j k
+  unfolding row
+  same-row j k = same-eqb (bottomRows G + j) (bottomRows G + k) j k (λ e. omega arith) (λ e. omega arith)
+
+  module _ (two : 2 ≤ G .parts) where
+    -- Sizes
+
+    wide : 0 < columns G (G .parts) .count
+    wide = omega (arith, spots-within G R 0 (omega arith) .0)
+
+    pub parts-le : G .parts ≤ size G + 1
+    parts-le = omega (arith, columns-count G R two, wide)
+
+    width-is : suc (layout G .width) ≡ columns G (G .parts) .count
+    unfolding layout drawnIn
+    width-is = width-number (columns G (G .parts) .count) (G .parts) (size G) (columns-count G R two) wide
+
+    height-is : suc (layout G .height) ≡ G .parts + bottomRows G + topRows G
+    unfolding layout drawnIn
+    height-is = height-number (G .parts) (bottomRows G) (topRows G) two
+
+    corner-point : (i : ℕ) → i < size G → (s : Spot) → List·Memᴰ s (cornersOf (courseOf G i)) → List·Memᴰ s (line i)
+    unfolding pointsAt routePoints
+    corner-point i h s m =
+        subst (λ (l : List Spot). List·Memᴰ s l) (sym (points-at i h))
+        (List·Memᴰ·tail (Memᴰ·append-left _ (subst (λ (l : List Spot). List·Memᴰ s l) (sym (corners-at i h)) m)))
+
+    abbrev Reached : (ℕ → List Spot) → (Spot → Type 0) → Type 0
+    Reached points P = (i : ℕ) × (k : ℕ) × (i < size G) × (k < length (points i)) × P (point (points i) k)
+
+    -- each rank is the lower or the upper one of some cable
+    rank-reached : (P : Spot → Type 0) (k : ℕ) → k < G .parts → P (rankSpot G k) → Reached line P
+    rank-reached P zero h p =
+        let c = R .continued 0 (omega arith) in (
+          c .0,
+          0,
+          c .1,
+          omega (arith, by-rank .two (c .0) (c .1)),
+          subst P (sym (by-rank .starts (c .0) (c .1) ∙ ap (rankSpot G) (c .2))) p,
+        )
+    rank-reached P (suc k) h p =
+        let c = R .entered (suc k) (omega arith) h in
+        let last : ℕ = length (line (c .0)) - 1 in
+        let b = by-rank .two (c .0) (c .1) in
+        (c .0, last, c .1, omega arith, subst P (sym (by-rank .ends (c .0) last (c .1) (omega arith) ∙ ap (rankSpot G) (c .2))) p)
+
+    corner-reached : (P : Spot → Type 0) (i : ℕ) (s : Spot) → i < size G → List·Memᴰ s (cornersOf (courseOf G i)) → P s → Reached line P
+    unfolding point
+    corner-reached P i s h m p =
+        let t = mem-place (line i) origin (corner-point i h s m) in
+        (i, t .0, h, t .1, subst P (sym (t .2)) p)
+
+    -- a spot of a rank or of a corner is a point of some cable
+    reached :
+        (P : Spot → Type 0) → ((k : ℕ) × (k < G .parts) × P (rankSpot G k)) ⊎ ((i : ℕ) × (s : Spot) × (i < size G) × List·Memᴰ s (cornersOf (courseOf G i)) × P s)
+        → Reached (pointsAt (layout G)) P
+    reached P t = drawn (⊎-elim (λ t. rank-reached P (t .0) (t .1) (t .2)) (λ t. corner-reached P (t .0) (t .1) (t .2) (t .3) (t .4)) t)
+      where
+        drawn : Reached line P → Reached (pointsAt (layout G)) P
+        drawn r =
+            let q = subst (λ (l : List Spot). (r .1 < length l) × P (point l (r .1))) (points-at (r .0) (r .2)) (r .3, r .4) in
+            (r .0, r .1, r .2, q .0, q .1)
+
+    inside : (i k : ℕ) → i < size G → k < length (line i) → (point (line i) k .x ≤ layout G .width) × (point (line i) k .y ≤ layout G .height)
+    unfolding point
+    inside i k h g =
+        let w = points-within G R i h (getD (line i) k origin) (getD-mem (line i) k origin g) in
+        (omega (arith, w .0, width-is), omega (arith, w .1, height-is))
+
+    rank-inside : (k : ℕ) → k < G .parts → (rankSpot G k .x ≤ layout G .width) × (rankSpot G k .y ≤ layout G .height)
+    rank-inside k h = let w = spots-within G R k h in (omega (arith, w .0, width-is), omega (arith, w .1, height-is))
+
+    -- '3m - n + 3 + d + e words'
+    pub words-count : length (sheetWords (layout G)) + G .parts ≡ 3 * size G + 3 + bottomRows G + topRows G
+    words-count = omega (arith, words-length (layout G), parts-count G, routes-count G, corner-count G, corners-sum G R two)
+
+    module _ (most : G .parts ≤ 256) where
+      -- Fields
+
+      narrow : columns G (G .parts) .count ≤ 258
+      narrow = omega (arith, columns-count G R two, cables-le G R)
+
+      low-rise : G .parts + bottomRows G + topRows G ≤ 258
+      low-rise = omega (arith, bottomRows-le G R, topRows-le G R)
+
+      pub column-fits : (k : ℕ) → k < G .parts → getD (columns G (G .parts) .parts) k 0 < 4096
+      column-fits k h = omega (arith, narrow, part-column-below G R (G .parts) k h)
+
+      turn-fits : (i : ℕ) → i < size G → (s : Spot) → List·Memᴰ s (turns (courseOf G i)) → (s .x < 4096) × (s .y < 4096)
+      turn-fits i h s t = let w = points-within G R i h s (turns-points (courseOf G i) t) in omega (arith, w .0, w .1, narrow, low-rise)
+
+      pub course-fits : (i : ℕ) → i < size G → CourseFits (courseOf G i)
+      unfolding turns
+      course-fits i h =
+          record {
+            rises = rising G R i h;
+            from = turn-fits i h _ (List·Memᴰ·head refl) .0;
+            low = turn-fits i h _ (List·Memᴰ·tail (List·Memᴰ·head refl)) .1;
+            column = turn-fits i h _ (List·Memᴰ·tail (List·Memᴰ·tail (List·Memᴰ·head refl))) .0;
+            high = turn-fits i h _ (List·Memᴰ·tail (List·Memᴰ·tail (List·Memᴰ·tail (List·Memᴰ·head refl)))) .1;
+            to = turn-fits i h _ (List·Memᴰ·tail (List·Memᴰ·tail (List·Memᴰ·tail (List·Memᴰ·tail (List·Memᴰ·head refl))))) .0;
+          }
+
+      spot-fits : (s : Spot) → (s .x < columns G (G .parts) .count) × (s .y < G .parts + bottomRows G + topRows G) → SpotFits s
+      spot-fits s w = record { x-fits = omega (arith, w .0, narrow); y-fits = omega (arith, w .1, low-rise) }
+
+      corners-fit : (i : ℕ) → i < size G → AllFit (cornersOf (courseOf G i))
+      corners-fit i h k g =
+          let s : Spot = getD (cornersOf (courseOf G i)) k origin in
+          spot-fits s (points-within G R i h s (corner-point i h s (getD-mem (cornersOf (courseOf G i)) k origin g)))
+
+      pub few-lines : size G ≤ 65536
+      few-lines = omega (arith, cables-le G R)
+
+      pub ends-length : length (tabulate (size G) (endsOf G)) ≡ size G
+      ends-length = length-tabulate (size G) _
+
+      pub fits : DrawingFits (G .parts) (tabulate (size G) (endsOf G)) (layout G)
+      unfolding spotOf routeAt
+      fits = record {
+        width-fits = omega (arith, width-is, narrow);
+        height-fits = omega (arith, height-is, low-rise);
+        parts-count = parts-count G;
+        parts-fit = λ k h. let g : k < G .parts = omega (arith, parts-count G) in subst SpotFits (sym (spot-of G k g)) (spot-fits _ (spots-within G R k g));
+        routes-count = routes-count G ∙ sym ends-length;
+        routes-fit = λ i h.
+            let g : i < size G = omega (arith, ends-length) in
+            let e : getD (tabulate (size G) (endsOf G)) i noEnds ≡ endsOf G i = getD-tabulate (size G) (endsOf G) i noEnds g in
+            record {
+              first-is = first-at i g ∙ sym (ap (λ (z : Ends). z .first) e);
+              last-is = last-at i g ∙ sym (ap (λ (z : Ends). z .last) e);
+              few = omega (arith, ap length (corners-at i g), corners-four G R i g);
+              corners-fit = subst AllFit (sym (corners-at i g)) (corners-fit i g);
+            };
+      }
+
+      -- '2m - 2n + 2 + d + e corners'
+      pub corner-words : count isCorner (sheetWords (layout G)) + 2 * G .parts ≡ 2 * size G + 2 + bottomRows G + topRows G
+      corner-words =
+          omega (arith, words-corners (G .parts) (tabulate (size G) (endsOf G)) (layout G) fits (omega (arith, ends-length, few-lines)), corner-count G, corners-sum G R two)
+
+      pub sizes : Sizes (G .parts) (size G) (layout G) (sheetWords (layout G))
+      sizes = record {
+        x-most = λ i k h. subst (λ (l : List Spot). k < length l → point l k .x ≤ layout G .width) (points-at i h) (λ g. inside i k h g .0);
+        x-reached = let r = reached (λ s. suc (s .x) ≡ columns G (G .parts) .count) (width-spot G R two) in (r .0, r .1, r .2, r .3, omega (arith, r .4, width-is));
+        y-most = λ i k h. subst (λ (l : List Spot). k < length l → point l k .y ≤ layout G .height) (points-at i h) (λ g. inside i k h g .1);
+        y-reached =
+            let r = reached (λ s. suc (s .y) ≡ G .parts + bottomRows G + topRows G) (height-spot G R two) in (r .0, r .1, r .2, r .3, omega (arith, r .4, height-is));
+        parts-within = λ p h. subst (λ (s : Spot). (s .x ≤ layout G .width) × (s .y ≤ layout G .height)) (sym (spot-of G p h)) (rank-inside p h);
+        width = omega (arith, width-is, columns-count G R two);
+        height = omega (arith, height-is, bottomRows-le G R, topRows-le G R);
+        corners = omega (arith, corner-words, bottomRows-le G R, topRows-le G R);
+        bends = omega (arith, bends-count G, corners-many-count G R);
+      }

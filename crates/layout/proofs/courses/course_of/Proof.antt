@@ -1,0 +1,50 @@
+-- The course is read off its cable, the columns of the parts and the ends. Assumes nothing.
+use borrow.Author.Needs.{needs}
+use mathlib.Core.Path.{refl}
+use Rattle.layout.proofs.Lanes.{course-read}
+use Rattle.layout.proofs.courses.course_of.Statement.{statement}
+use Rattle.layout.proofs.courses.course_of.Tie as tie
+
+cast-n : tie.Need-cast-n
+cast-n c = search needs
+
+part-spot-requires : tie.Need-part-spot-requires
+part-spot-requires c κs = search needs
+
+add-pick : tie.Need-add-pick
+add-pick c = search needs
+
+pick-requires : tie.Need-pick-requires
+pick-requires c κs = search needs
+
+add-pick-2 : tie.Need-add-pick-2
+add-pick-2 c = search needs
+
+add-pick-3 : tie.Need-add-pick-3
+add-pick-3 c = search needs
+
+pick-requires-2 : tie.Need-pick-requires-2
+pick-requires-2 c κs = search needs
+
+part-spot-requires-2 : tie.Need-part-spot-requires-2
+part-spot-requires-2 c κs = search needs
+
+returns : tie.Need-returns
+returns c =
+    let s = c .before .before .before .before .before .before .before .before .before .before .before in
+    course-read (s .args .parts .now) _ refl (c .before .before .before .before .before .before .before .before .before .part-spot .ensures)
+    (c .before .before .before .before .before .pick .ensures) refl (c .before .pick2 .ensures) (c .part-spot2 .ensures)
+
+pub course-of-spec : {M : Type 1} → statement M
+course-of-spec =
+    tie.close
+    (tie.spec
+    cast-n
+    part-spot-requires
+    add-pick
+    pick-requires
+    add-pick-2
+    add-pick-3
+    pick-requires-2
+    part-spot-requires-2
+    returns)

@@ -1,0 +1,103 @@
+-- The lines below i have their courses. Assumes nothing.
+use native.Mathlib.Omega.{arith}
+use Prim.Native.Nat.{ℕ, _<_, _≤_, _-_}
+use mathlib.Core.Path.{_≡_, _∙_}
+use lib.ListN.{length, getD, take, length-replicate, length-set}
+use Rattle.lists.proofs.Kept.{below-set}
+use Rattle.order.specs.Arrays.{graphIn}
+use Rattle.layout.specs.Points.{courseOf}
+use Rattle.layout.specs.Arrays.{courseIn, noCourse}
+use Rattle.layout.specs.Incidents.{graphOf}
+use Rattle.layout.proofs.Lengths.{lower-lent, parts-lent}
+use Rattle.layout.proofs.Lanes.{cable-reaches, cable-course}
+use Rattle.layout.proofs.courses.courses_of.Statement.{statement}
+use Rattle.layout.proofs.courses.courses_of.Tie as tie
+
+abbrev Inv-loop : tie.InvT-loop
+Inv-loop ends lower upper cables parts n m courses₀ i₀ courses i =
+    (i ≤ m) × (length courses ≡ 512) × ((j : ℕ) → j < i → courseIn (getD courses j noCourse) ≡ courseOf (graphOf n (take m lower) (take m upper)) j)
+
+abbrev μ-loop : tie.MeasureT-loop
+μ-loop ends lower upper cables parts n m courses₀ i₀ courses i = m - i
+
+no-course-requires : tie.Need-no-course-requires Inv-loop μ-loop
+no-course-requires c κs = tt
+
+loop-holds : tie.Need-loop-holds Inv-loop μ-loop
+loop-holds c = (omega arith, length-replicate 512 (c .no-course .result), λ j h. absurd (omega arith))
+
+array-read-cable-of : tie.Need-array-read-cable-of Inv-loop μ-loop
+array-read-cable-of c = omega arith
+
+array-read-cable-of-2 : tie.Need-array-read-cable-of-2 Inv-loop μ-loop
+array-read-cable-of-2 c = omega arith
+
+mul-cable-of : tie.Need-mul-cable-of Inv-loop μ-loop
+mul-cable-of c = omega arith
+
+array-read-cable-of-3 : tie.Need-array-read-cable-of-3 Inv-loop μ-loop
+array-read-cable-of-3 c = omega arith
+
+cable-of-requires : tie.Need-cable-of-requires Inv-loop μ-loop
+cable-of-requires c κs = tt
+
+array-share-prefix-parts : tie.Need-array-share-prefix-parts Inv-loop μ-loop
+array-share-prefix-parts c = let s = c .before .before .before .before .before .before .before .before in parts-lent (s .pre .0) (s .args .columns) (s .good .1 .0) .within
+
+slice-aggregate-course-of : tie.Need-slice-aggregate-course-of Inv-loop μ-loop
+slice-aggregate-course-of c = let s = c .before .before .before .before .before .before .before .before .before in parts-lent (s .pre .0) (s .args .columns) (s .good .1 .0) .lines
+
+course-of-requires : tie.Need-course-of-requires Inv-loop μ-loop
+course-of-requires c κs =
+    let s = c .before .before .before .before .before .before .before .before .before in
+    let v = s .pre .0 in
+    cable-reaches v (s .pre .1 .0) (c .before .before .before .loop .i) (c .before .before .loop-test .taken) (c .before .cable-of .ensures) (s .pre .1 .1) _
+    (lower-lent v (s .good .0) .lines) (parts-lent v (s .args .columns) (s .good .1 .0) .lines)
+
+mul-courses : tie.Need-mul-courses Inv-loop μ-loop
+mul-courses c = omega arith
+
+array-set-from-courses : tie.Need-array-set-from-courses Inv-loop μ-loop
+array-set-from-courses c = omega arith
+
+add-i : tie.Need-add-i Inv-loop μ-loop
+add-i c = omega arith
+
+loop-less : tie.Need-loop-less Inv-loop μ-loop
+loop-less c = omega arith
+
+loop-again : tie.Need-loop-again Inv-loop μ-loop
+loop-again c =
+    let s = c .before .before .before .before .before .before .before .before .before .before in
+    let l = c .before .before .before .before .loop in
+    let r = cable-course (s .pre .0) (s .pre .1 .0) (l .i) (c .before .before .before .loop-test .taken) (c .before .before .cable-of .ensures) (s .pre .1 .1) (c .course-of .ensures) in (
+      omega arith,
+      length-set (l .courses) (l .i) _ ∙ l .inv .1,
+      below-set (λ j x. courseIn x ≡ courseOf (graphIn (s .args .graph)) j) (l .courses) (l .i) (c .course-of .result) noCourse (omega arith) (l .inv .2) r,
+    )
+
+returns : tie.Need-returns Inv-loop μ-loop
+returns c = λ i h. c .before .loop .inv .2 i (omega arith)
+
+pub courses-of-spec : {M : Type 1} → statement M
+courses-of-spec =
+    tie.close
+    (tie.spec
+    Inv-loop
+    μ-loop
+    no-course-requires
+    loop-holds
+    array-read-cable-of
+    array-read-cable-of-2
+    mul-cable-of
+    array-read-cable-of-3
+    cable-of-requires
+    array-share-prefix-parts
+    slice-aggregate-course-of
+    course-of-requires
+    mul-courses
+    array-set-from-courses
+    add-i
+    loop-less
+    loop-again
+    returns)

@@ -1,0 +1,32 @@
+-- Each end has a row more exactly where it has a connection. Assumes nothing.
+use mathlib.Core.Path.{ap, _∙_}
+use Rattle.order.specs.Arrays.{graphIn}
+use Rattle.layout.specs.Columns.{topLine}
+use Rattle.layout.proofs.Lengths.{lower-lent}
+use Rattle.layout.proofs.Lanes.{ends-read}
+use Rattle.layout.proofs.ends.ends_of.Statement.{statement}
+use Rattle.layout.proofs.ends.ends_of.Tie as tie
+
+bottom-line-requires : tie.Need-bottom-line-requires
+bottom-line-requires c κs = c .pre .0
+
+top-line-requires : tie.Need-top-line-requires
+top-line-requires c κs = c .before .pre .0
+
+one-if-requires : tie.Need-one-if-requires
+one-if-requires c κs = tt
+
+one-if-requires-2 : tie.Need-one-if-requires-2
+one-if-requires-2 c κs = tt
+
+returns : tie.Need-returns
+returns c =
+    let s = c .before .before .before .before in
+    let v = s .pre .0 in
+    ends-read (v .ranked) (lower-lent v (s .good .0) .lines) (c .before .before .before .bottom-line .ensures)
+    (c .before .before .top-line .ensures ∙ ap (topLine (graphIn (s .args .graph))) (s .pre .1 .cables)) (c .before .one-if .ensures) (c .one-if2 .ensures)
+
+pub ends-of-spec : {M : Type 1} → statement M
+ends-of-spec =
+    tie.close
+    (tie.spec bottom-line-requires top-line-requires one-if-requires one-if-requires-2 returns)

@@ -1,0 +1,72 @@
+-- The cables below i have their new columns. Assumes nothing.
+use native.Mathlib.Omega.{arith}
+use Prim.Native.Nat.{_≤_, _-_}
+use mathlib.Core.Path.{_∙_}
+use lib.ListN.{length}
+use Rattle.lists.proofs.Fill.{Filled, filled-none, filled-more, filled-take}
+use Rattle.layout.specs.Placements.{cableBy}
+use Rattle.layout.proofs.placing.cables_after.Statement.{statement}
+use Rattle.layout.proofs.placing.cables_after.Tie as tie
+
+abbrev Inv-loop : tie.InvT-loop
+Inv-loop lower k placement next₀ i₀ next i = (i ≤ length lower) × Filled (cableBy lower k placement next₀) 0 i next₀ next
+
+abbrev μ-loop : tie.MeasureT-loop
+μ-loop lower k placement next₀ i₀ next i = length lower - i
+
+loop-holds : tie.Need-loop-holds Inv-loop μ-loop
+loop-holds c = (omega arith, filled-none _ 0 _)
+
+rank-at-requires : tie.Need-rank-at-requires Inv-loop μ-loop
+rank-at-requires c κs = omega arith
+
+mul-cable-column : tie.Need-mul-cable-column Inv-loop μ-loop
+mul-cable-column c = omega arith
+
+array-read-cable-column : tie.Need-array-read-cable-column Inv-loop μ-loop
+array-read-cable-column c = omega arith
+
+cable-column-requires : tie.Need-cable-column-requires Inv-loop μ-loop
+cable-column-requires c κs =
+    let s = c .before .before .before .before in
+    let l = c .before .before .loop in
+    (s .pre .0, omega (arith, l .inv .1 .rest (l .i) (omega arith), s .pre .1 .1 (l .i) (omega arith)))
+
+mul-next : tie.Need-mul-next Inv-loop μ-loop
+mul-next c = omega arith
+
+array-write-next : tie.Need-array-write-next Inv-loop μ-loop
+array-write-next c = omega arith
+
+add-i : tie.Need-add-i Inv-loop μ-loop
+add-i c = omega arith
+
+loop-less : tie.Need-loop-less Inv-loop μ-loop
+loop-less c = omega arith
+
+loop-again : tie.Need-loop-again Inv-loop μ-loop
+loop-again c =
+    let l = c .before .before .before .loop in
+    let kept = l .inv .1 .rest (l .i) (omega arith) in
+    (omega arith, filled-more _ 0 (c .cable-column .result) (omega arith) (c .cable-column .ensures ∙ rw (c .before .rank-at .ensures, kept)) (l .inv .1))
+
+returns : tie.Need-returns Inv-loop μ-loop
+returns c = filled-take _ 0 _ (c .loop-test .left) (omega arith) (c .before .loop .inv .1)
+
+pub cables-after-spec : {M : Type 1} → statement M
+cables-after-spec =
+    tie.close
+    (tie.spec
+    Inv-loop
+    μ-loop
+    loop-holds
+    rank-at-requires
+    mul-cable-column
+    array-read-cable-column
+    cable-column-requires
+    mul-next
+    array-write-next
+    add-i
+    loop-less
+    loop-again
+    returns)

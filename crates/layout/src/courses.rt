@@ -1,0 +1,112 @@
+// The course of each cable, once all ranks stand.
+use crate::Columns;
+use crate::Course;
+use crate::ends::Ends;
+use drawing::Spot;
+use order::Graph;
+ghost use mathlib.Core.Path.{_≡_};
+ghost use mathlib.Core.Bool.{cond};
+ghost use Prim.Native.Nat.{ℕ, _+_, _<_};
+ghost use lib.ListN.{length, getD};
+ghost use Rattle.order.specs.Arrays.{graphIn};
+ghost use Rattle.drawing.specs.Spots.{spotAt, spotIn};
+ghost use Rattle.layout.specs.Points.{courseOf};
+ghost use Rattle.layout.specs.Arrays.{Given, courseIn, noCourse};
+ghost use Rattle.layout.specs.Incidents.{at};
+ghost use Rattle.layout.specs.Placements.{ColumnsOf};
+ghost use Rattle.layout.specs.Courses.{EndsOf, cableOf, Reaches, IsCourse};
+
+// A cable: its line, the ranks of its lower and its upper part, and its column.
+pub struct Cable {
+    pub line: usize,
+    pub lower: u16,
+    pub upper: u16,
+    pub column: u16,
+}
+
+fn cable_of(line: usize, lower: u8, upper: u8, column: u16) -> Cable
+    ensures { λ r. ⌜ r ≡ cableOf line lower upper column ⌝ }
+{
+    Cable {
+        line,
+        lower: lower as u16,
+        upper: upper as u16,
+        column,
+    }
+}
+
+fn pick(b: bool, x: u16, y: u16) -> u16
+    ensures { λ r. ⌜ r ≡ cond b x y ⌝ }
+{
+    if b { x } else { y }
+}
+
+// 'Rank k stands in row d + k.'
+fn part_spot(parts: &[u16], bottom_rows: u16, k: u16) -> Spot
+    requires { ⌜ k < length (now parts) ⌝ }
+    requires { ⌜ «bottom_rows» + k < 65536 ⌝ }
+    ensures { λ r. ⌜ spotIn r ≡ spotAt (at (now (parts .entry)) k) («bottom_rows» + k) ⌝ }
+{
+    let rank = k as usize;
+    Spot {
+        x: parts[rank],
+        y: bottom_rows + k,
+    }
+}
+
+// A cable leaves its part in the part's row and comes in so; the bottom connection 'turns in row 0', and the top connection goes 'to row d + n'.
+fn course_of(parts: &[u16], ends: Ends, cable: Cable) -> Course
+    requires { ⌜ Reaches (length (now parts)) ends cable ⌝ }
+    ensures { λ r. ⌜ IsCourse (now (parts .entry)) ends cable r ⌝ }
+{
+    let bottom_rows = ends.bottom_rows;
+    let n = parts.len() as u16;
+    Course {
+        from: part_spot(parts, bottom_rows, cable.lower),
+        low: pick(cable.line == ends.bottom_line, 0, bottom_rows + cable.lower),
+        column: cable.column,
+        high: pick(
+            cable.line == ends.top_line,
+            bottom_rows + n,
+            bottom_rows + cable.upper,
+        ),
+        to: part_spot(parts, bottom_rows, cable.upper),
+    }
+}
+
+// What stands in the array beyond the last line.
+fn no_course() -> Course
+    ensures { λ r. ⌜ r ≡ noCourse ⌝ }
+{
+    let no = Spot { x: 0, y: 0 };
+    Course {
+        from: no,
+        low: 0,
+        column: 0,
+        high: 0,
+        to: no,
+    }
+}
+
+// The course of every cable, by line.
+pub fn courses_of(graph: Graph, columns: Columns, ends: Ends) -> [Course; 512]
+    requires { ⌜ Given graph ⌝ }
+    requires { ⌜ ColumnsOf graph (graph .parts) columns ⌝ }
+    requires { ⌜ EndsOf (graphIn graph) ends ⌝ }
+    ensures { λ r. ⌜ ((i : ℕ) → i < graph .cables → courseIn (getD r i noCourse) ≡ courseOf (graphIn graph) i) ⌝ }
+{
+    let lower = graph.lower;
+    let upper = graph.upper;
+    let cables = columns.cables;
+    let parts = columns.parts;
+    let n = graph.parts;
+    let m = graph.cables;
+    let mut courses = [no_course(); 512];
+    let mut i = 0;
+    while i < m {
+        let cable = cable_of(i, lower[i], upper[i], cables[i]);
+        courses[i] = course_of(&parts[..n], ends, cable);
+        i += 1;
+    }
+    courses
+}

@@ -1,0 +1,62 @@
+// The bottom and the top connection, and the rows that they take.
+use crate::Columns;
+use crate::incident::fourth_or;
+use crate::incident::incoming;
+use crate::incident::outgoing;
+use crate::placing::one_if;
+use order::Graph;
+ghost use mathlib.Core.Path.{_≡_};
+ghost use lib.ListN.{take};
+ghost use Rattle.order.specs.Arrays.{graphIn};
+ghost use Rattle.layout.specs.Columns.{bottomLine, topLine};
+ghost use Rattle.layout.specs.Arrays.{Given};
+ghost use Rattle.layout.specs.Placements.{ColumnsOf};
+ghost use Rattle.layout.specs.Courses.{EndsOf};
+
+// What all courses share: d and e of document 01, and the lines at the bottom and at the top connection.
+pub struct Ends {
+    pub bottom_rows: u16,
+    pub top_rows: u16,
+    pub bottom_line: usize,
+    pub top_line: usize,
+}
+
+// 'The fourth leaves s downward': the line at the bottom connection, or the count of lines where s has fewer than four.
+fn bottom_line(graph: Graph) -> usize
+    requires { ⌜ Given graph ⌝ }
+    ensures { λ r. ⌜ r ≡ bottomLine (graphIn graph) ⌝ }
+{
+    let lower = graph.lower;
+    let upper = graph.upper;
+    let m = graph.cables;
+    fourth_or(outgoing(&lower[..m], &upper[..m], 0), m)
+}
+
+// 'The fourth climbs one row more': the line at the top connection, or the count of lines where t has fewer than four.
+fn top_line(graph: Graph, columns: Columns) -> usize
+    requires { ⌜ Given graph ⌝ }
+    ensures { λ r. ⌜ r ≡ topLine (graphIn graph) (take (graph .cables) (columns .cables)) ⌝ }
+{
+    let upper = graph.upper;
+    let cables = columns.cables;
+    let m = graph.cables;
+    let last = graph.parts - 1;
+    fourth_or(incoming(&upper[..m], &cables[..m], last as u16), m)
+}
+
+// 'Let d be 1 if s has four cables and 0 otherwise, and e the same for t': exactly then there is a connection.
+pub fn ends_of(graph: Graph, columns: Columns) -> Ends
+    requires { ⌜ Given graph ⌝ }
+    requires { ⌜ ColumnsOf graph (graph .parts) columns ⌝ }
+    ensures { λ r. ⌜ EndsOf (graphIn graph) r ⌝ }
+{
+    let m = graph.cables;
+    let bottom = bottom_line(graph);
+    let top = top_line(graph, columns);
+    Ends {
+        bottom_rows: one_if(bottom < m),
+        top_rows: one_if(top < m),
+        bottom_line: bottom,
+        top_line: top,
+    }
+}

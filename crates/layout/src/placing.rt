@@ -1,0 +1,189 @@
+// The columns of cables and parts, rank by rank.
+use crate::Columns;
+use crate::incident::Incident;
+use crate::incident::incoming;
+use crate::incident::index_of;
+use crate::incident::outgoing;
+use crate::incident::rank_at;
+use crate::incident::taken;
+use order::Graph;
+ghost use mathlib.Core.Path.{_≡_};
+ghost use mathlib.Core.Bool.{cond};
+ghost use mathlib.Core.List.{[], _∷_, _++_, map};
+ghost use Prim.Native.Nat.{ℕ, _+_, _≤_, _<_};
+ghost use lib.ListN.{length, getD, take};
+ghost use Rattle.lists.specs.Select.{indexOf, oneIf, tabulate};
+ghost use Rattle.order.specs.Arrays.{graphIn};
+ghost use Rattle.layout.specs.Columns.{newLeft, newRight, moved};
+ghost use Rattle.layout.specs.Arrays.{Given};
+ghost use Rattle.layout.specs.Incidents.{linesIn};
+ghost use Rattle.layout.specs.Placements.{ColumnsOf, PlacementOf, Stands, Room, movedBy, openedBy, cableBy};
+
+// Where a rank stands: its outgoing cables, the column that it takes, how many new ones come directly left and directly right of it, and the column
+// right of all.
+pub struct Placement {
+    pub outs: Incident,
+    pub column: u16,
+    pub left: u16,
+    pub right: u16,
+    pub last: u16,
+}
+
+fn opens_left(ins: usize, outs: usize) -> bool
+    ensures { λ r. ⌜ r ≡ newLeft ins outs ⌝ }
+{
+    3 <= outs || outs == 2 && ins == 2
+}
+
+fn opens_right(ins: usize, outs: usize) -> bool
+    ensures { λ r. ⌜ r ≡ newRight ins outs ⌝ }
+{
+    3 <= outs || outs == 2 && ins <= 1
+}
+
+pub fn one_if(b: bool) -> u16
+    ensures { λ r. ⌜ r ≡ oneIf b ⌝ }
+{
+    if b { 1 } else { 0 }
+}
+
+fn placement_of(ins: Incident, outs: Incident, count: u16) -> Placement
+    requires { ⌜ (ins .count ≤ 4) × (count < 32768) ⌝ }
+    ensures { λ r. ⌜ PlacementOf ins outs count r ⌝ }
+{
+    let left = one_if(opens_left(ins.count, outs.count));
+    let right = one_if(opens_right(ins.count, outs.count));
+    Placement {
+        outs,
+        column: taken(ins),
+        left,
+        right,
+        last: count + left + right,
+    }
+}
+
+// Where rank k stands, by the columns of the ranks below it.
+fn placement_at(graph: Graph, k: u16, columns: Columns) -> Placement
+    requires { ⌜ Given graph ⌝ }
+    requires { ⌜ k < graph .parts ⌝ }
+    requires { ⌜ ColumnsOf graph k columns ⌝ }
+    ensures { λ r. ⌜ Stands (graphIn graph) k r ⌝ }
+{
+    let lower = graph.lower;
+    let upper = graph.upper;
+    let cables = columns.cables;
+    let m = graph.cables;
+    let outs = outgoing(&lower[..m], &upper[..m], k);
+    let ins = incoming(&upper[..m], &cables[..m], k);
+    placement_of(ins, outs, columns.count)
+}
+
+fn moved(placement: Placement, x: u16) -> u16
+    requires { ⌜ x + placement .left + placement .right < 65536 ⌝ }
+    ensures { λ r. ⌜ r ≡ movedBy placement x ⌝ }
+{
+    if x < placement.column {
+        return x;
+    }
+    if x == placement.column {
+        return x + placement.left;
+    }
+    x + placement.left + placement.right
+}
+
+// The column of the outgoing cable at place j.
+fn opened(placement: Placement, j: u16) -> u16
+    requires { ⌜ placement .column + j < 65536 ⌝ }
+    ensures { λ r. ⌜ r ≡ openedBy placement j ⌝ }
+{
+    if j == 3 {
+        placement.last
+    } else {
+        placement.column + j
+    }
+}
+
+// The column of a cable, once the rank stands that opens it or not.
+fn cable_column(placement: Placement, opens: bool, line: usize, x: u16) -> u16
+    requires { ⌜ Room placement ⌝ }
+    requires { ⌜ x < 32768 ⌝ }
+    ensures { λ r. ⌜ r ≡ cond opens (openedBy placement (indexOf line (linesIn (placement .outs)))) (movedBy placement x) ⌝ }
+{
+    if opens {
+        opened(placement, index_of(placement.outs, line))
+    } else {
+        moved(placement, x)
+    }
+}
+
+// The columns of the cables once rank k stands.
+fn cables_after(lower: &[u8], k: u16, placement: Placement, cables: [u16; 512]) -> [u16; 512]
+    requires { ⌜ Room placement ⌝ }
+    requires { ⌜ length (now lower) ≤ 512 ⌝ }
+    requires { ⌜ ((i : ℕ) → i < length (now lower) → getD cables i 0 < 32768) ⌝ }
+    ensures { λ r. ⌜ take (length (now (lower .entry))) r ≡ tabulate (length (now (lower .entry))) (cableBy (now (lower .entry)) k placement cables) ⌝ }
+{
+    let mut next = cables;
+    let mut i = 0;
+    while i < lower.len() {
+        next[i] = cable_column(placement, rank_at(lower, i) == k, i, next[i]);
+        i += 1;
+    }
+    next
+}
+
+// The columns of the parts once rank k stands.
+fn parts_after(placement: Placement, k: usize, parts: [u16; 256]) -> [u16; 256]
+    requires { ⌜ Room placement ⌝ }
+    requires { ⌜ k < 256 ⌝ }
+    requires { ⌜ ((i : ℕ) → i < k → getD parts i 0 < 32768) ⌝ }
+    ensures { λ r. ⌜ take (k + 1) r ≡ map (movedBy placement) (take k parts) ++ (placement .column + placement .left) ∷ [] ⌝ }
+{
+    let mut next = parts;
+    let mut i = 0;
+    while i < k {
+        next[i] = moved(placement, next[i]);
+        i += 1;
+    }
+    next[k] = placement.column + placement.left;
+    next
+}
+
+// The columns once rank k stands, from those before it.
+fn add_rank(graph: Graph, k: usize, columns: Columns) -> Columns
+    requires { ⌜ Given graph ⌝ }
+    requires { ⌜ k < graph .parts ⌝ }
+    requires { ⌜ ColumnsOf graph k columns ⌝ }
+    ensures { λ r. ⌜ ColumnsOf graph (k + 1) r ⌝ }
+{
+    let rank = k as u16;
+    let placement = placement_at(graph, rank, columns);
+    let lower = graph.lower;
+    let m = graph.cables;
+    let cables = columns.cables;
+    let parts = columns.parts;
+    Columns {
+        cables: cables_after(&lower[..m], rank, placement, cables),
+        parts: parts_after(placement, k, parts),
+        count: placement.last + one_if(placement.outs.count == 4),
+    }
+}
+
+// The columns once every rank stands. At the start there is one: 's gets its own column'.
+pub fn columns_of(graph: Graph) -> Columns
+    requires { ⌜ Given graph ⌝ }
+    ensures { λ r. ⌜ ColumnsOf graph (graph .parts) r ⌝ }
+{
+    let n = graph.parts;
+    let mut columns = Columns {
+        cables: [0; 512],
+        parts: [0; 256],
+        count: 1,
+    };
+    let mut k = 0;
+    while k < n {
+        columns = add_rank(graph, k, columns);
+        k += 1;
+    }
+    columns
+}

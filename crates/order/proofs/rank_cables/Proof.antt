@@ -1,0 +1,122 @@
+-- `order::rank_cables` meets its contract. Below line i, the arrays have the ranks of each cable's two parts. Assumes nothing.
+use Prim.Native.Nat.{_-_, _≤_, _<_}
+use native.Mathlib.Omega.{arith}
+use lib.ListN.{length}
+use borrow.Author.Needs.{needs}
+use denote.Ref.{now}
+use Rattle.lists.proofs.Fill.{Filled, filled-more}
+use Rattle.station.specs.Station.{stationOf}
+use Rattle.order.specs.Graph.{lower, upper}
+use Rattle.order.specs.Ends.{graphOf}
+use Rattle.order.proofs.Passed.{cables-most}
+use Rattle.order.proofs.Drawables.{drawable10}
+use Rattle.order.proofs.LineRanks.{blank, length-blank, filled-blank, line-word, one-below, other-below, lower-line, upper-line, lines-ranked}
+use Rattle.order.proofs.rank_cables.Statement.{statement}
+use Rattle.order.proofs.rank_cables.Tie as tie
+
+abbrev Inv-loop : tie.InvT-loop
+Inv-loop list cables rank lower₀ upper₀ i₀ lowers uppers i =
+    (i ≤ cables) × Filled (lower (graphOf (stationOf list))) 0 i blank lowers × Filled (upper (graphOf (stationOf list))) 0 i blank uppers
+
+abbrev μ-loop : tie.MeasureT-loop
+μ-loop list cables rank lower₀ upper₀ i₀ lowers uppers i = cables - i
+
+module _ (c : tie.In-loop Inv-loop μ-loop) where
+  line : c .before .loop .i < length (stationOf (now (c .before .before .before .before .before .args .list)) .cables)
+  line = omega (arith, c .loop-test .taken, c .before .before .before .cable-count .ensures)
+
+  room : c .before .loop .i < 512
+  room = omega (arith, line, cables-most _ (c .before .before .before .before .before .pre .0))
+
+  place : c .before .loop .i < length blank
+  place = omega (arith, room, length-blank)
+
+cable-count-requires : tie.Need-cable-count-requires Inv-loop μ-loop
+cable-count-requires c κs = drawable10 _ (c .before .pre .0) .words
+
+loop-holds : tie.Need-loop-holds Inv-loop μ-loop
+loop-holds c = (omega arith, filled-blank _, filled-blank _)
+
+one-part-requires : tie.Need-one-part-requires Inv-loop μ-loop
+one-part-requires c κs = line-word _ (c .before .before .before .before .before .pre .0) _ (line c)
+
+cast-a : tie.Need-cast-a Inv-loop μ-loop
+cast-a c = search needs
+
+array-copy-out-a : tie.Need-array-copy-out-a Inv-loop μ-loop
+array-copy-out-a c = one-below _ (c .before .before .before .before .before .before .before .pre .0) _ (c .before .one-part .ensures)
+
+other-part-requires : tie.Need-other-part-requires Inv-loop μ-loop
+other-part-requires c κs = line-word _ (c .before .before .before .before .before .before .before .before .pre .0) _ (line (c .before .before .before))
+
+cast-b : tie.Need-cast-b Inv-loop μ-loop
+cast-b c = search needs
+
+array-copy-out-b : tie.Need-array-copy-out-b Inv-loop μ-loop
+array-copy-out-b c = other-below _ (c .before .before .before .before .before .before .before .before .before .before .pre .0) _ (c .before .other-part .ensures)
+
+lower-of-requires : tie.Need-lower-of-requires Inv-loop μ-loop
+lower-of-requires c κs = search needs
+
+array-write-lower : tie.Need-array-write-lower Inv-loop μ-loop
+array-write-lower c = room (c .before .before .before .before .before .before .before)
+
+upper-of-requires : tie.Need-upper-of-requires Inv-loop μ-loop
+upper-of-requires c κs = search needs
+
+array-write-upper : tie.Need-array-write-upper Inv-loop μ-loop
+array-write-upper c = room (c .before .before .before .before .before .before .before .before)
+
+add-i : tie.Need-add-i Inv-loop μ-loop
+add-i c = search needs
+
+loop-less : tie.Need-loop-less Inv-loop μ-loop
+loop-less c = search needs
+
+loop-again : tie.Need-loop-again Inv-loop μ-loop
+loop-again c =
+    let k = c .before .before .before .before .before .before .before .before in
+    let l = k .before .loop in
+    let s = k .before .before .before .before .before in
+    let one = c .before .before .before .before .before .before .before .one-part .ensures in
+    let other = c .before .before .before .before .other-part .ensures in (
+      omega arith,
+      filled-more _ 0 _ (place k) (lower-line _ (s .pre .0) (s .pre .1) (l .i) (line k) one other (c .before .lower-of .ensures)) (l .inv .1),
+      filled-more _ 0 _ (place k) (upper-line _ (s .pre .0) (s .pre .1) (l .i) (line k) one other (c .upper-of .ensures)) (l .inv .2),
+    )
+
+part-count-requires : tie.Need-part-count-requires Inv-loop μ-loop
+part-count-requires c κs = drawable10 _ (c .before .before .before .before .before .pre .0) .words
+
+returns : tie.Need-returns Inv-loop μ-loop
+returns c =
+    let l = c .before .before .loop in
+    let s = c .before .before .before .before .before .before in
+    let m = c .before .before .before .before .cable-count .ensures in (
+      lines-ranked _ (s .pre .0) (c .part-count .ensures) m (c .before .loop-test .left) (l .inv .1) (l .inv .2),
+      omega (arith, m, cables-most _ (s .pre .0)),
+    )
+
+pub rank-cables-spec : {M : Type 1} → statement M
+rank-cables-spec =
+    tie.close
+    (tie.spec
+    Inv-loop
+    μ-loop
+    cable-count-requires
+    loop-holds
+    one-part-requires
+    cast-a
+    array-copy-out-a
+    other-part-requires
+    cast-b
+    array-copy-out-b
+    lower-of-requires
+    array-write-lower
+    upper-of-requires
+    array-write-upper
+    add-i
+    loop-less
+    loop-again
+    part-count-requires
+    returns)

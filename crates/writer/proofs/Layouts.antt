@@ -1,0 +1,185 @@
+-- What the values of a layout say of its drawing: its parts, its sizes, its courses and which of them cross. Assumes nothing.
+use Prim.Native.Nat.{ℕ, _+_, _-_, _*_, _<_, _≤_}
+use native.Mathlib.Omega.{arith}
+use mathlib.Core.Path.{_≡_, refl, sym, ap, ap₂, subst, _∙_}
+use mathlib.Core.Bool.{Bool, not, _&&_, _||_}
+use mathlib.Core.List.{List, map}
+use lib.ListN.{length, getD, length-map, List·getD-map}
+use lib.Seq.{length-take-le, getD-take}
+use Rattle.words.specs.declared.Rank.{Rank}
+use Rattle.order.specs.declared.Ranking.{Ranking}
+use Rattle.order.specs.Graph.{StGraph, size, lower, upper, Ranked}
+use Rattle.order.specs.Arrays.{graphIn}
+use Rattle.order.specs.Order.{rankIn}
+use Rattle.order.specs.Ranking.{rankNumbers, namesIn, Inverse}
+use Rattle.drawing.specs.Spots.{spotAt}
+use Rattle.drawing.specs.Crossing.{linesCross}
+use Rattle.drawing.specs.Drawing.{Route, spotOf, routeAt, pointsAt, shareEnd, crossPair}
+use Rattle.drawing.specs.Sheet.{routeWords, sheetWords}
+use Rattle.drawing.proofs.Renumbered.{parts-renumbered, spot-renumbered}
+use Rattle.layout.specs.declared.Course as code-course
+use Rattle.layout.specs.declared.Layout.{Layout}
+use Rattle.layout.specs.Columns.{columns}
+use Rattle.layout.specs.Points.{Course, cornersOf, row, partSpot, course, rankSpot, courseOf}
+use Rattle.layout.specs.Layout.{drawnIn, layout}
+use Rattle.layout.specs.Over.{over}
+use Rattle.layout.specs.Arrays.{courseIn, noCourse, Laid}
+use Rattle.layout.proofs.Rows.{bottomRows-le}
+use Rattle.layout.proofs.Placed.{facts}
+use Rattle.layout.proofs.Cross.{linesCross-over}
+use Rattle.layout.proofs.Drawn.{CourseFits, parts-count, routes-count, spot-of, route-at, points-at, same-row, parts-le, words-count, column-fits, course-fits, fits}
+use Rattle.writer.specs.Values.{layoutIn, numberedIn, routeIn}
+use Rattle.writer.proofs.Sections.{route-words}
+
+-- the course of the cable at line i
+abbrev pub courseAt : Layout → ℕ → code-course.Course
+courseAt l i = getD (l .courses) i noCourse
+
+-- What the code knows of a layout that it is handed, by its type: the array of lower ranks has its length.
+abbrev pub Room : Layout → Type 0
+Room l = length (map (λ (v : ℕ). v) (l .graph .lower)) ≡ 512
+
+module _ (l : Layout) (L : Laid l) where
+  abbrev G : StGraph
+  G = graphIn (l .graph)
+
+  ranked : Ranked G
+  ranked = L .given .ranked
+
+  -- Parts by rank
+
+  pub part-count : length (layoutIn l .parts) ≡ l .graph .parts
+  part-count = parts-count G
+
+  column-at : (k : ℕ) → k < l .graph .parts → getD (columns G (l .graph .parts) .parts) k 0 ≡ getD (l .columns .parts) k 0
+  column-at k h = ap (λ (xs : List ℕ). getD xs k 0) (sym (L .parts)) ∙ getD-take (l .graph .parts) (l .columns .parts) k 0 h
+
+  pub spot-at : (k : ℕ) → k < l .graph .parts → spotOf (layoutIn l) k ≡ spotAt (getD (l .columns .parts) k 0) (l .«bottom_rows» + k)
+  unfolding rankSpot partSpot row
+  spot-at k h = spot-of G k h ∙ ap₂ spotAt (column-at k h) (ap (λ (d : ℕ). d + k) (sym (L .bottom)))
+
+  pub column-small : (k : ℕ) → k < l .graph .parts → getD (l .columns .parts) k 0 < 4096
+  column-small k h = omega (arith, column-fits G ranked (L .given .least) (L .given .most) k h, column-at k h)
+
+  pub bottom-small : l .«bottom_rows» ≤ 1
+  bottom-small = omega (arith, L .bottom, bottomRows-le G ranked)
+
+  -- Rows of a course
+
+  from-row : (i : ℕ) → i < l .graph .cables → courseAt l i .from .y ≡ row G (lower G i)
+  unfolding courseOf course partSpot
+  from-row i h = ap (λ (c : Course). c .from .y) (L .courses i h)
+
+  to-row : (i : ℕ) → i < l .graph .cables → courseAt l i .to .y ≡ row G (upper G i)
+  unfolding courseOf course partSpot
+  to-row i h = ap (λ (c : Course). c .to .y) (L .courses i h)
+
+  module _ (room : Room l) where
+    lines : size G ≡ l .graph .cables
+    lines = length-take-le (l .graph .cables) (l .graph .lower) (omega (arith, length-map (l .graph .lower) (λ (v : ℕ). v), room, L .given .cables))
+
+    inside : (i : ℕ) → i < l .graph .cables → i < size G
+    inside i h = omega (arith, lines)
+
+    -- Sizes
+
+    pub word-count : length (sheetWords (layoutIn l)) + l .graph .parts ≡ 3 * l .graph .cables + 3 + l .«bottom_rows» + l .«top_rows»
+    word-count = omega (arith, words-count G ranked (L .given .least), lines, L .bottom, L .top)
+
+    pub parts-few : l .graph .parts ≤ l .graph .cables + 1
+    parts-few = omega (arith, parts-le G ranked (L .given .least), lines)
+
+    pub width-is : layoutIn l .width ≡ l .graph .cables + 1 - l .graph .parts
+    unfolding layout drawnIn
+    width-is = ap (λ (m : ℕ). m + 1 - l .graph .parts) lines
+
+    pub height-is : layoutIn l .height ≡ l .graph .parts - 1 + l .«bottom_rows» + l .«top_rows»
+    unfolding layout drawnIn
+    height-is = ap₂ (λ (d e : ℕ). l .graph .parts - 1 + d + e) (sym (L .bottom)) (sym (L .top))
+
+    pub width-small : l .graph .cables + 1 - l .graph .parts < 4096
+    width-small = omega (arith, width-is, fits G ranked (L .given .least) (L .given .most) .width-fits)
+
+    pub height-small : l .graph .parts - 1 + l .«bottom_rows» + l .«top_rows» < 4096
+    height-small = omega (arith, height-is, fits G ranked (L .given .least) (L .given .most) .height-fits)
+
+    -- Cables by line
+
+    pub route-count : length (layoutIn l .routes) ≡ l .graph .cables
+    route-count = routes-count G ∙ lines
+
+    pub course-small : (i : ℕ) → i < l .graph .cables → CourseFits (courseIn (courseAt l i))
+    course-small i h =
+        subst (λ (c : Course). CourseFits c) (sym (L .courses i h)) (course-fits G ranked (L .given .least) (L .given .most) i (inside i h))
+
+    pub route-is : (line i : ℕ) → i < l .graph .cables → routeWords line (routeIn (courseAt l i)) ≡ routeWords line (routeAt (layoutIn l) i)
+    route-is line i h =
+        route-words line (routeIn (courseAt l i)) (routeAt (layoutIn l) i)
+        (ap cornersOf (L .courses i h) ∙ sym (ap (λ (r : Route). r .corners) (route-at G i (inside i h))))
+
+    -- Crossings
+
+    -- rows tell parts apart as ranks do
+    same-parts :
+        (a b : ℕ) → a < l .graph .cables → b < l .graph .cables
+        → shareEnd (routeIn (courseAt l a)) (routeIn (courseAt l b)) ≡ shareEnd (routeAt (layoutIn l) a) (routeAt (layoutIn l) b)
+    unfolding shareEnd
+    same-parts a b h g =
+        rw (
+          route-at G a (inside a h),
+          route-at G b (inside b g),
+          from-row a h,
+          to-row a h,
+          from-row b g,
+          to-row b g,
+          same-row G ranked (lower G a) (lower G b),
+          same-row G ranked (lower G a) (upper G b),
+          same-row G ranked (upper G a) (lower G b),
+          same-row G ranked (upper G a) (upper G b),
+        )
+        refl
+
+    -- two lines cross where the upper level run of one is over the column of the other
+    same-lines :
+        (a b : ℕ) → a < b → b < size G
+        → linesCross (pointsAt (layoutIn l) a) (pointsAt (layoutIn l) b) ≡ (over (courseOf G a) (courseOf G b) || over (courseOf G b) (courseOf G a))
+    unfolding courseOf course rankSpot partSpot
+    same-lines a b h g =
+        let f : a < size G = omega arith in
+        ap₂ linesCross (sym (points-at G ranked a f)) (sym (points-at G ranked b g))
+        ∙ linesCross-over G _ _ _ _ _ (facts G ranked) a b f g (λ e. omega arith)
+
+    pub cross-is :
+        (a b : ℕ) → a < b → b < l .graph .cables
+        → (not (shareEnd (routeIn (courseAt l a)) (routeIn (courseAt l b)))
+        && (over (courseIn (courseAt l a)) (courseIn (courseAt l b)) || over (courseIn (courseAt l b)) (courseIn (courseAt l a))))
+        ≡ crossPair (layoutIn l) (routeAt (layoutIn l) a) (routeAt (layoutIn l) b)
+    unfolding crossPair pointsAt
+    cross-is a b h g =
+        let f : a < l .graph .cables = omega arith in
+        ap₂ (λ (s o : Bool). not s && o) (same-parts a b f g)
+        (ap₂ (λ (c d : Course). over c d || over d c) (L .courses a f) (L .courses b g) ∙ sym (same-lines a b h (inside b g)))
+
+  -- Parts by number
+
+  module _ (r : Ranking) where
+    abbrev rankOf : ℕ → ℕ
+    rankOf p = getD (r .rank) p (record { 0 = 0 }) .0
+
+    pub number-count : length (numberedIn r l .parts) ≡ l .graph .parts
+    number-count = parts-renumbered (namesIn (l .graph .parts) r) (layoutIn l) ∙ part-count
+
+    module _ (I : Inverse (l .graph .parts) r) where
+      rank-is : (p : ℕ) → getD (rankNumbers (r .rank)) p 0 ≡ rankOf p
+      unfolding rankNumbers
+      rank-is p = List·getD-map (λ (k : Rank). k .0) (r .rank) p (record { 0 = 0 })
+
+      pub rank-below : (p : ℕ) → p < l .graph .parts → rankOf p < l .graph .parts
+      rank-below p h = omega (arith, rank-is p, I .below p h)
+
+      -- part p stands where its rank does
+      pub number-spot : (p : ℕ) → p < l .graph .parts → spotOf (layoutIn l) (rankOf p) ≡ spotOf (numberedIn r l) p
+      unfolding rankIn
+      number-spot p h =
+          ap (spotOf (layoutIn l)) (sym (rank-is p) ∙ I .rank p h)
+          ∙ sym (spot-renumbered (namesIn (l .graph .parts) r) (layoutIn l) p (omega (arith, part-count)))
