@@ -8,8 +8,12 @@ use text::bytes::read_words;
 use text::lines::put_hex_lines;
 use text::lines::put_number;
 use text::lines::put_refused;
+use words::limits::MOST_WORDS;
 
 const MARK: u32 = 0xa5a5_a5a5;
+
+// Room to spare for every sheet.
+const ROW: usize = 2 * MOST_WORDS;
 
 fn say(text: &[u8]) {
     io::write_all(STDOUT_FILENO, text);
@@ -29,8 +33,8 @@ fn say_number(x: usize) {
 }
 
 fn say_words(words: &[u32]) {
-    if words.len() <= 2048 {
-        let mut out = [0u8; 18432];
+    if words.len() <= ROW {
+        let mut out = [0u8; 9 * ROW];
         let n = put_hex_lines(&mut out, 0, words);
         say_first(&out, n);
     }
@@ -105,14 +109,14 @@ fn draw_in(list: &[u32], row: &mut [u32], room: usize) {
 
 // A sheet of k words once more, with the exact room.
 fn draw_exact(list: &[u32], first: &[u32], k: usize) {
-    let mut row = [MARK; 2048];
+    let mut row = [MARK; ROW];
     draw_in(list, &mut row, k);
     say_same(first, &row);
 }
 
 // A list with room for so many words, which are too few.
 fn draw_short(list: &[u32], room: usize) {
-    let mut row = [MARK; 2048];
+    let mut row = [MARK; ROW];
     draw_in(list, &mut row, room);
     say_kept(&row);
 }
@@ -129,7 +133,7 @@ fn draw_sheet(list: &[u32], row: &[u32], k: usize) {
 }
 
 fn draw_list(list: &[u32]) {
-    let mut row = [MARK; 2048];
+    let mut row = [MARK; ROW];
     let answer = hookup::draw(list, &mut row);
     say_answer(answer);
     match answer {

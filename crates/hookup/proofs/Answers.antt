@@ -2,7 +2,7 @@
 use Prim.Native.Nat.{ℕ, _<_, _≤_}
 use native.Mathlib.Omega.{arith}
 use mathlib.Core.Path.{_≡_, refl, sym, ap, ap₂, _∙_, subst}
-use mathlib.Core.List.{List, _++_}
+use mathlib.Core.List.{List, [], _∷_, _++_, List·Memᴰ·not-nil}
 use lib.ListN.{length, take, drop}
 use lib.Seq.{take-at}
 use lib.Dec.{ltb}
@@ -11,10 +11,11 @@ use Rattle.lists.specs.declared.Found.the-variants.{At, Nothing}
 use Rattle.lists.specs.Stores.{Stored}
 use Rattle.lists.proofs.Stores.{stored-as, stored-front}
 use Rattle.station.specs.Station.{stationOf}
-use Rattle.station.specs.Checks.{Verdict, passed, refused, orElse, checked, verdict8}
-use Rattle.station.proofs.Passed.{checked-clear, checked-refused}
+use Rattle.station.specs.declared.Verdict.the-variants as verdict
+use Rattle.station.specs.Checks.{firstRefusal, Clear, listChecks}
+use Rattle.station.proofs.FirstRefusal.{rest-decides, first-found, refused-before, each-clear, clear-append, clear-more}
 use Rattle.order.specs.Reach.{check9, check10}
-use Rattle.order.specs.Verdict.{verdict10}
+use Rattle.order.specs.Checks.{stationChecks, allChecks}
 use Rattle.drawing.specs.Drawing.{crossings}
 use Rattle.drawing.specs.Sheet.{sheetWords}
 use Rattle.hookup.specs.declared.Answer.the-variants.{Sheet, Refused}
@@ -24,58 +25,68 @@ use Rattle.hookup.specs.Demand.{Demand3, Ordered}
 use Rattle.hookup.specs.Answer.{counts, reply, outputOf, Drew}
 use Rattle.hookup.proofs.Demand3.{demand3, ordered}
 
--- Verdicts
+-- Checks 1 to 8 with what they find, then 9 and 10
 
-pub verdict-8 : (list : List ℕ) (c p : ℕ) → verdict8 list ≡ refused c p → verdict10 list ≡ refused c p
-unfolding verdict10
-verdict-8 list c p e = checked-refused list _ c p e
+module _ (list : List ℕ) where
+  pub refused-8 : (c p : ℕ) → firstRefusal listChecks list ≡ verdict.Refused c p → firstRefusal allChecks list ≡ verdict.Refused c p
+  unfolding allChecks
+  refused-8 c p e = refused-before list listChecks stationChecks c p e
 
-pub verdict-9 : (list : List ℕ) (p : ℕ) → verdict8 list ≡ passed → check9 (stationOf list) ≡ At p → verdict10 list ≡ refused 9 p
-unfolding verdict10 orElse
-verdict-9 list p e f = checked-clear list _ e ∙ rw f refl
+  module _ (clear : Clear listChecks list) where
+    pub refused-9 : (p : ℕ) → check9 (stationOf list) ≡ At p → firstRefusal allChecks list ≡ verdict.Refused 9 p
+    unfolding allChecks stationChecks
+    refused-9 p e = first-found list listChecks _ _ p clear e
 
-pub verdict-10 : (list : List ℕ) (p : ℕ) → verdict8 list ≡ passed → check9 (stationOf list) ≡ Nothing → check10 (stationOf list) ≡ At p → verdict10 list ≡ refused 10 p
-unfolding verdict10 orElse
-verdict-10 list p e f g = checked-clear list _ e ∙ rw (f, g) refl
+    module _ (none : check9 (stationOf list) ≡ Nothing) where
+      nine : Clear (record { number = 9; finds = λ l. check9 (stationOf l) } ∷ []) list
+      nine = clear-more list [] (record { number = 9; finds = λ l. check9 (stationOf l) }) (each-clear list [] (λ c m. absurd (List·Memᴰ·not-nil m))) none
 
-pub verdict-none : (list : List ℕ) → verdict8 list ≡ passed → check9 (stationOf list) ≡ Nothing → check10 (stationOf list) ≡ Nothing → verdict10 list ≡ passed
-unfolding verdict10 orElse
-verdict-none list e f g = checked-clear list _ e ∙ rw (f, g) refl
+      pub refused-10 : (p : ℕ) → check10 (stationOf list) ≡ At p → firstRefusal allChecks list ≡ verdict.Refused 10 p
+      unfolding allChecks stationChecks
+      refused-10 p e =
+          rest-decides list listChecks _ clear
+          ∙ first-found list (record { number = 9; finds = λ l. check9 (stationOf l) } ∷ []) (record { number = 10; finds = λ l. check10 (stationOf l) }) [] p nine e
+
+      pub all-clear : check10 (stationOf list) ≡ Nothing → Clear allChecks list
+      unfolding allChecks stationChecks
+      all-clear e =
+          clear-append list listChecks _ clear
+          (clear-more list (record { number = 9; finds = λ l. check9 (stationOf l) } ∷ []) (record { number = 10; finds = λ l. check10 (stationOf l) }) nine e)
 
 -- Outcomes
 
-refused-outcome : (list : List ℕ) (room c p : ℕ) → verdict10 list ≡ refused c p → outcome list room ≡ sentBack c p
+refused-outcome : (list : List ℕ) (room c p : ℕ) → firstRefusal allChecks list ≡ verdict.Refused c p → outcome list room ≡ sentBack c p
 unfolding outcome orDrawn
 refused-outcome list room c p e = rw e refl
 
 short-outcome :
-    (list : List ℕ) (room : ℕ) → verdict10 list ≡ passed → room < length (sheetWords (drawing (stationOf list)))
+    (list : List ℕ) (room : ℕ) → Clear allChecks list → room < length (sheetWords (drawing (stationOf list)))
     → outcome list room ≡ sentBack 11 (length (sheetWords (drawing (stationOf list))))
 unfolding outcome orDrawn fitted
 short-outcome list room e h = rw (e, lt-ltb room (length (sheetWords (drawing (stationOf list)))) h) refl
 
 drawn-outcome :
-    (list : List ℕ) (room : ℕ) → verdict10 list ≡ passed → length (sheetWords (drawing (stationOf list))) ≤ room
+    (list : List ℕ) (room : ℕ) → Clear allChecks list → length (sheetWords (drawing (stationOf list))) ≤ room
     → outcome list room ≡ drawn (sheetWords (drawing (stationOf list))) (crossings (drawing (stationOf list)))
 unfolding outcome orDrawn fitted
 drawn-outcome list room e h = rw (e, le-ltb room (length (sheetWords (drawing (stationOf list)))) h) refl
 
 -- Answers
 
-pub drew-refused : (list before : List ℕ) (c p : ℕ) → verdict10 list ≡ refused c p → Drew list before before (Refused c p)
+pub drew-refused : (list before : List ℕ) (c p : ℕ) → firstRefusal allChecks list ≡ verdict.Refused c p → Drew list before before (Refused c p)
 drew-refused list before c p e =
     let o = refused-outcome list (length before) c p e in
     record { replies = sym (ap reply o); output = sym (ap (λ (z : Outcome). outputOf z before) o); demands = tt }
 
 pub drew-short :
-    (list before : List ℕ) (p : ℕ) → verdict10 list ≡ passed → length before < p → p ≡ length (sheetWords (drawing (stationOf list)))
+    (list before : List ℕ) (p : ℕ) → Clear allChecks list → length before < p → p ≡ length (sheetWords (drawing (stationOf list)))
     → Drew list before before (Refused 11 p)
 drew-short list before p e h f =
     let o = short-outcome list (length before) e (omega arith) in
     record { replies = sym (ap reply (o ∙ ap (sentBack 11) (sym f))); output = sym (ap (λ (z : Outcome). outputOf z before) o); demands = tt }
 
 pub drew-sheet :
-    (list before after words : List ℕ) (n k : ℕ) → verdict10 list ≡ passed → words ≡ sheetWords (drawing (stationOf list))
+    (list before after words : List ℕ) (n k : ℕ) → Clear allChecks list → words ≡ sheetWords (drawing (stationOf list))
     → length (sheetWords (drawing (stationOf list))) ≤ length before → Stored before 0 words after n → k ≡ crossings (drawing (stationOf list))
     → Drew list before after (Sheet n k)
 drew-sheet list before after words n k e f h S g =

@@ -5,28 +5,28 @@ use mathlib.Core.Path.{_≡_, refl, sym, ap, _∙_, subst}
 use mathlib.Core.Logic.{inl, inr, ⊎-elim}
 use mathlib.Core.List.{List, List·Memᴰ}
 use lib.ListN.{length, getD, length-map}
+use Rattle.words.specs.Limits.{mostWords}
 use Rattle.lists.proofs.Select.{getD-map}
-use Rattle.words.specs.Words.{secondOf}
-use Rattle.station.specs.Station.{Station, stationOf}
-use Rattle.station.specs.Checks.{passed}
-use Rattle.order.specs.Order.{order, rankIn}
-use Rattle.order.specs.Verdict.{verdict10}
-use Rattle.order.specs.Ends.{noCable, lowerPart, upperPart, graphOf}
+use Rattle.station.specs.Station.{Station, stationOf, noCable}
+use Rattle.station.specs.Checks.{Clear}
+use Rattle.order.specs.Order.{order}
+use Rattle.order.specs.Checks.{allChecks}
+use Rattle.order.specs.Ends.{lowerPart, upperPart, graphOf}
 use Rattle.order.specs.StOrder.{Smallest}
-use Rattle.order.proofs.StOrder.{order-smallest}
+use Rattle.order.proofs.StOrder.{order-ordering, order-smallest}
 use Rattle.order.proofs.Ends.{parts-joined}
-use Rattle.order.proofs.Passed.{list-wired, list-orderable, list-ranked, cables-most}
+use Rattle.order.proofs.Passed.{list-wired, list-orderable, list-ranked, lines-most}
 use Rattle.drawing.specs.Drawing.{Drawing, routeAt, Meets}
 use Rattle.drawing.specs.Sheet.{sheetWords}
-use Rattle.drawing.specs.Reading.{Ends, noEnds}
+use Rattle.drawing.specs.Reading.{Ends, noEnds, partsByRow}
 use Rattle.drawing.specs.Sizes.{Sizes}
 use Rattle.drawing.proofs.ReadBack.{DrawingFits, words-fit}
 use Rattle.hookup.specs.Drawing.{drawing}
 use Rattle.hookup.specs.Reading.{endsBy, drawingOf}
-use Rattle.hookup.specs.Demand.{Form, Demand3, Ordered}
+use Rattle.hookup.specs.Demand.{Form, Demand3, rowOf, Ordered}
 use Rattle.hookup.proofs.Drawn as drawn
 use Rattle.hookup.proofs.Drawn.{Sound, endsOf, fits, reads, meets, sizes}
-use Rattle.hookup.proofs.Rows.{below, word-of-row, parts-by-row}
+use Rattle.hookup.proofs.Rows.{parts-by-row, rank-row, below-is}
 
 module _ (st : Station) (S : Sound st) where
   ends-at : (i : ℕ) → i < length (st .cables) → getD (endsOf st) i noEnds ≡ endsBy (order st) (getD (st .cables) i noCable)
@@ -55,7 +55,7 @@ module _ (st : Station) (S : Sound st) where
         (parts-joined (order st) (getD (st .cables) i noCable));
   }
 
-module _ (list : List ℕ) (pass : verdict10 list ≡ passed) where
+module _ (list : List ℕ) (pass : Clear allChecks list) where
   pub sound : Sound (stationOf list)
   sound = record {
     orderable = list-orderable list pass;
@@ -82,20 +82,23 @@ module _ (list : List ℕ) (pass : verdict10 list ≡ passed) where
 
   -- of demand 2: 'The parts stand in the smallest st-ordering between the two named ends'
   pub ordered : Ordered list (sheetWords (drawing (stationOf list)))
-  ordered = subst (λ (l : List ℕ). Smallest (stationOf list) l) (sym (parts-by-row list sound)) (order-smallest (stationOf list) (list-orderable list pass))
-
-  -- 'Rank k stands in row d + k.': of the word of part p
-  pub rows :
-      (p : ℕ) → p < stationOf list .parts
-      → secondOf (getD (sheetWords (drawing (stationOf list))) (1 + p) 0) ≡ below (stationOf list) sound + rankIn (order (stationOf list)) p
-  rows = word-of-row (stationOf list) sound
+  ordered =
+      let st : Station = stationOf list in
+      let sheet : List ℕ = sheetWords (drawing st) in
+      let e : partsByRow (st .parts) sheet ≡ order st = parts-by-row list sound in
+      record {
+        smallest = subst (λ (l : List ℕ). Smallest st l) (sym e) (order-smallest st (list-orderable list pass));
+        rows = λ k h.
+            ap (λ (l : List ℕ). rowOf sheet (getD l k 0)) e
+            ∙ rank-row st sound k (omega (arith, order-ordering st (list-orderable list pass) .all)) ∙ ap (λ (d : ℕ). d + k) (below-is st sound);
+      }
 
   -- every word has 32 bits
   pub sheet-fits : (w : ℕ) → List·Memᴰ w (sheetWords (drawing (stationOf list))) → w < 2 ^ 32
   sheet-fits =
       words-fit (stationOf list .parts) (endsOf (stationOf list)) (drawing (stationOf list)) (fits (stationOf list) sound)
-      (omega (arith, length-map (stationOf list .cables) (endsBy (order (stationOf list))), cables-most list pass))
+      (omega (arith, length-map (stationOf list .cables) (endsBy (order (stationOf list))), lines-most list pass))
 
   -- an output of so many words always suffices
-  pub words-most : length (sheetWords (drawing (stationOf list))) ≤ 1285
+  pub words-most : length (sheetWords (drawing (stationOf list))) ≤ mostWords
   words-most = drawn.words-most (stationOf list) sound

@@ -6,14 +6,15 @@ use mathlib.Core.Path.{_≡_, refl, sym, ap, subst, _∙_}
 use mathlib.Core.List.{List, map}
 use lib.ListN.{length, getD, length-map}
 use lib.Seq.{ext-getD}
+use Rattle.words.specs.Limits.{leastParts, mostParts, mostWords}
 use Rattle.lists.specs.Select.{tabulate, count}
 use Rattle.lists.proofs.Select.{getD-map, getD-tabulate, length-tabulate}
-use Rattle.station.specs.Station.{Cable, Station}
+use Rattle.station.specs.Station.{Cable, Station, noCable}
 use Rattle.order.specs.Order.{order, rankIn}
 use Rattle.order.specs.StOrder.{StOrdering}
 use Rattle.order.specs.Graph.{StGraph, size, lower, upper, Ranked}
-use Rattle.order.specs.Ends.{noCable, lowerPart, upperPart, graphOf}
-use Rattle.order.proofs.Weak.{Orderable}
+use Rattle.order.specs.Ends.{lowerPart, upperPart, graphOf}
+use Rattle.order.proofs.Bipolar.{Orderable}
 use Rattle.order.proofs.StOrder.{order-ordering}
 use Rattle.order.proofs.Ranks.{graph-parts, graph-size, rank-below, part-of-rank, rank-of-part}
 use Rattle.order.proofs.Graphs.{cables-le}
@@ -37,8 +38,8 @@ use Rattle.hookup.specs.Reading.{endsBy, readBy}
 pub record Sound (st : Station) : Type 0 where
   pub orderable : Orderable st
   pub ranked : Ranked (graphOf st)
-  pub three : 3 ≤ st .parts
-  pub most : st .parts ≤ 256
+  pub three : leastParts ≤ st .parts
+  pub most : st .parts ≤ mostParts
 
 -- the cables' two parts, by line, as a sheet of the station is read
 abbrev pub endsOf : Station → List Ends
@@ -53,7 +54,7 @@ module _ (st : Station) where
     two : 2 ≤ graphOf st .parts
     two = omega (arith, graph-parts st, S .three)
 
-    most : graphOf st .parts ≤ 256
+    most : graphOf st .parts ≤ mostParts
     most = omega (arith, graph-parts st, S .most)
 
     O : StOrdering st (order st)
@@ -154,7 +155,7 @@ module _ (st : Station) where
         (sizes-renumbered (order st) (layout G) names (laid.meets G R) (G .parts) ranks (laid.fits G R two most) few
         (subst (λ (m : ℕ). Sizes (G .parts) m (layout G) (sheetWords (layout G))) (sym ranks-all) (laid.sizes G R two most)))))
 
-    -- four cables at a part at most, and 256 parts
-    pub words-most : length (sheetWords (drawing st)) ≤ 1285
+    -- four cables at a part at most
+    pub words-most : length (sheetWords (drawing st)) ≤ mostWords
     words-most =
         omega (arith, all-words, cables-le (graphOf st) (S .ranked), bottomRows-le (graphOf st) (S .ranked), topRows-le (graphOf st) (S .ranked), graph-parts st, graph-size st, S .most)

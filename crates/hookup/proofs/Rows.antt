@@ -1,20 +1,29 @@
 -- The rows of the parts on a sheet, and the parts by rising row: the order. Assumes nothing.
-use Prim.Native.Nat.{ℕ, suc, _+_, _<_}
+use Prim.Native.Nat.{ℕ, suc, _+_, _<_, min}
 use native.Mathlib.Omega.{arith}
-use mathlib.Core.Path.{_≡_, ap, _∙_}
+use native.Mathlib.Decide.{ℕ-discrete}
+use mathlib.Core.Path.{_≡_, sym, ap, _∙_}
+use mathlib.Core.Logic.{_⊎_, inl, inr}
+use mathlib.Core.Bool.{true, _||_}
 use mathlib.Core.List.{List, map, List·Memᴰ}
+use lib.Dec.{eqb}
+use borrow.Author.Tests.{eqb-true, eq-eqb}
 use lib.ListN.{length, getD, length-map, List·getD-append}
-use Rattle.lists.specs.Select.{range, sortBy}
-use Rattle.lists.proofs.Select.{getD-map}
+use Rattle.lists.specs.Select.{range, count, sortBy, oneIf}
+use Rattle.lists.proofs.Select.{getD-map, length-filter}
+use Rattle.lists.proofs.Bools.{or-e, or-left, or-right, same-test}
+use Rattle.lists.proofs.Sums.{count-ext}
+use Rattle.lists.proofs.Tally.{count-places}
 use Rattle.lists.proofs.Places.{mem-place}
 use Rattle.lists.proofs.Rising.{strictly-of-places, sortBy-strictly}
 use Rattle.words.specs.Words.{secondOf, part}
 use Rattle.words.proofs.Words.{fields-apart}
-use Rattle.station.specs.Station.{Station, stationOf}
+use Rattle.station.specs.Station.{Cable, Station, stationOf, joins, degree, noCable}
 use Rattle.order.specs.Order.{order, rankIn}
 use Rattle.order.specs.StOrder.{StOrdering}
 use Rattle.order.proofs.StOrder.{order-ordering, order-mem}
-use Rattle.order.proofs.Ranks.{graph-parts, rank-below, rank-of-part}
+use Rattle.order.proofs.Ranks.{graph-parts, graph-size, lower-is, rank-below, rank-of-part, rank-one, rank-source}
+use Rattle.order.specs.Graph.{size, lower, linesAt}
 use Rattle.order.specs.Ends.{graphOf}
 use Rattle.drawing.specs.Spots.{Spot, origin}
 use Rattle.drawing.specs.Drawing.{Drawing, spotOf, renumbered}
@@ -26,6 +35,7 @@ use Rattle.layout.specs.Points.{bottomRows, row, partSpot, rankSpot}
 use Rattle.layout.specs.Layout.{layout}
 use Rattle.layout.proofs.Drawn as laid
 use Rattle.hookup.specs.Drawing.{drawing}
+use Rattle.hookup.specs.Demand.{rowsBelow, rowOf}
 use Rattle.hookup.proofs.Drawn.{Sound, is-renumbered, fits}
 
 -- the word of part p is word 1 + p
@@ -63,14 +73,12 @@ module _ (st : Station) (S : Sound st) where
       let g : p < length (drawing st .parts) = omega (arith, fits st S .parts-count) in
       ap (λ (w : ℕ). secondOf w) (part-word (drawing st) p g) ∙ word-row (spotOf (drawing st) p) (fits st S .parts-fit p g) ∙ part-row p h
 
-  abbrev rowOf : ℕ → ℕ
-  rowOf p = secondOf (getD (sheetWords (drawing st)) (1 + p) 0)
-
   O : StOrdering st (order st)
   O = order-ordering st (S .orderable)
 
   -- the row of the part of rank k
-  rank-row : (k : ℕ) → k < length (order st) → rowOf (getD (order st) k 0) ≡ below + k
+  pub rank-row : (k : ℕ) → k < length (order st) → rowOf (sheetWords (drawing st)) (getD (order st) k 0) ≡ below + k
+  unfolding rowOf
   rank-row k h =
       let g : k < st .parts = omega (arith, O .all) in
       word-of-row (getD (order st) k 0) (O .inside k g) ∙ ap (λ (r : ℕ). below + r) (rank-of-part st (S .orderable) k g)
@@ -78,12 +86,61 @@ module _ (st : Station) (S : Sound st) where
   order-inside : (p : ℕ) → List·Memᴰ p (order st) → p < st .parts
   order-inside p m = let t = mem-place (order st) 0 m in omega (arith, O .inside (t .0) (omega (arith, t .1, O .all)), t .2)
 
-  pub by-row : sortBy rowOf (range (st .parts)) ≡ order st
+  pub by-row : sortBy (rowOf (sheetWords (drawing st))) (range (st .parts)) ≡ order st
   by-row =
-      sortBy-strictly rowOf (st .parts) (order st) (strictly-of-places rowOf (order st) (λ i j h g. omega (arith, rank-row i (omega arith), rank-row j g)))
+      sortBy-strictly (rowOf (sheetWords (drawing st))) (st .parts) (order st) (strictly-of-places (rowOf (sheetWords (drawing st))) (order st) (λ i j h g. omega (arith, rank-row i (omega arith), rank-row j g)))
       order-inside (order-mem st (S .orderable))
+
+  -- The rows below s, by the cables of s
+
+  at-source : (i : ℕ) → i < length (st .cables) → eqb (lower (graphOf st) i) 0 ≡ joins (st .source) (getD (st .cables) i noCable)
+  unfolding joins
+  at-source i h = same-test (eqb (lower (graphOf st) i) 0) _ there back
+    where
+      c : Cable
+      c = getD (st .cables) i noCable
+
+      within : (c .one < st .parts) × (c .other < st .parts)
+      within = S .orderable .within i h
+
+      -- s alone has rank 0
+      is : (p : ℕ) → p < st .parts → rankIn (order st) p ≡ 0 → p ≡ st .source
+      is p l e = rank-one st (S .orderable) p (st .source) l (S .orderable .source) (e ∙ sym (rank-source st (S .orderable)))
+
+      there : eqb (lower (graphOf st) i) 0 ≡ true → (eqb (c .one) (st .source) || eqb (c .other) (st .source)) ≡ true
+      there e = go (ℕ-discrete (rankIn (order st) (c .one)) 0)
+        where
+          least : min (rankIn (order st) (c .one)) (rankIn (order st) (c .other)) ≡ 0
+          least = sym (lower-is st i h) ∙ eqb-true (lower (graphOf st) i) 0 e
+
+          go : Dec (rankIn (order st) (c .one) ≡ 0) → (eqb (c .one) (st .source) || eqb (c .other) (st .source)) ≡ true
+          go (yes q) = or-left _ _ (eq-eqb (c .one) (st .source) (is (c .one) (within .0) q))
+          go (no q) = or-right (eqb (c .one) (st .source)) _ (eq-eqb (c .other) (st .source) (is (c .other) (within .1) (omega (arith, least))))
+
+      back : (eqb (c .one) (st .source) || eqb (c .other) (st .source)) ≡ true → eqb (lower (graphOf st) i) 0 ≡ true
+      back e = go (or-e (eqb (c .one) (st .source)) (eqb (c .other) (st .source)) e)
+        where
+          zero-at : (p : ℕ) → p ≡ st .source → rankIn (order st) p ≡ 0
+          zero-at p q = ap (rankIn (order st)) q ∙ rank-source st (S .orderable)
+
+          go : (eqb (c .one) (st .source) ≡ true) ⊎ (eqb (c .other) (st .source) ≡ true) → eqb (lower (graphOf st) i) 0 ≡ true
+          go (inl q) = eq-eqb (lower (graphOf st) i) 0 (omega (arith, lower-is st i h, zero-at (c .one) (eqb-true (c .one) (st .source) q)))
+          go (inr q) = eq-eqb (lower (graphOf st) i) 0 (omega (arith, lower-is st i h, zero-at (c .other) (eqb-true (c .other) (st .source) q)))
+
+  -- all cables of s go out
+  source-lines : length (linesAt (size (graphOf st)) (lower (graphOf st)) 0) ≡ degree (st .cables) (st .source)
+  unfolding linesAt degree
+  source-lines =
+      length-filter (λ i. eqb (lower (graphOf st) i) 0) (range (size (graphOf st)))
+      ∙ ap (λ (m : ℕ). count (λ i. eqb (lower (graphOf st) i) 0) (range m)) (graph-size st)
+      ∙ count-ext _ _ (length (st .cables)) at-source
+      ∙ sym (count-places (joins (st .source)) (st .cables) noCable)
+
+  pub below-is : below ≡ rowsBelow st
+  unfolding bottomRows rowsBelow
+  below-is = ap (λ (k : ℕ). oneIf (eqb k 4)) source-lines
 
 -- the parts by rising row are the parts by rank
 pub parts-by-row : (list : List ℕ) → Sound (stationOf list) → partsByRow (stationOf list .parts) (sheetWords (drawing (stationOf list))) ≡ order (stationOf list)
-unfolding partsByRow
+unfolding partsByRow rowOf
 parts-by-row list S = by-row (stationOf list) S

@@ -4,10 +4,11 @@ use native.Mathlib.Omega.{arith}
 use mathlib.Core.Path.{_≡_, sym, ap, ap₂, subst, _∙_}
 use mathlib.Core.List.{List}
 use lib.ListN.{length, getD}
+use Rattle.words.specs.Limits.{mostCables}
 use Rattle.station.specs.Station.{stationOf}
-use Rattle.station.specs.Checks.{passed}
+use Rattle.station.specs.Checks.{Clear}
 use Rattle.order.specs.Order.{order, rankIn}
-use Rattle.order.specs.Verdict.{verdict10}
+use Rattle.order.specs.Checks.{allChecks}
 use Rattle.order.specs.Graph.{StGraph, Ranked}
 use Rattle.order.specs.Ends.{graphOf}
 use Rattle.order.specs.Ranking.{RankingOf, namesIn, Inverse}
@@ -23,9 +24,9 @@ use Rattle.hookup.specs.Drawing.{drawing}
 use Rattle.hookup.proofs.Drawn.{Sound, is-renumbered, crossings-are, length-is}
 use Rattle.hookup.proofs.Demand3.{sound}
 
-module _ (list : List ℕ) (pass : verdict10 list ≡ passed) where
+module _ (list : List ℕ) (pass : Clear allChecks list) where
   -- the layout may start from the cables in ranks
-  pub given : {g : Graph} → graphIn g ≡ graphOf (stationOf list) → g .cables ≤ 512 → Given g
+  pub given : {g : Graph} → graphIn g ≡ graphOf (stationOf list) → g .cables ≤ mostCables → Given g
   given {g} e few =
       let n : g .parts ≡ stationOf list .parts = ap (λ (G : StGraph). G .parts) e ∙ graph-parts (stationOf list) in
       record {

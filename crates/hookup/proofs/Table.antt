@@ -1,7 +1,7 @@
 -- The eleven refusals, the boundaries, and stations A to D of document 01, as the definitions give them. Assumes nothing.
 use Prim.Native.Nat.{ℕ, zero, suc, _+_, _-_}
 use mathlib.Core.Path.{_≡_, refl}
-use mathlib.Core.Bool.{Bool}
+use mathlib.Core.Bool.{Bool, false}
 use mathlib.Core.List.{List, [], _∷_, _++_, map}
 use lib.ListN.{length, getD}
 use lib.Dec.{eqb}
@@ -9,9 +9,9 @@ use Rattle.lists.specs.Search.{seek}
 use Rattle.lists.specs.Select.{upFrom, range, tabulate, member, any, filter, count, without, lastly, indexOf, insertBy, sortBy}
 use Rattle.words.specs.Words.{kindOf, corner}
 use Rattle.station.specs.Station.{stationOf, cableOf, joins, degree}
-use Rattle.station.specs.Checks.{orElse, atWhen, check1, kindAt, misplaced, check2, check3, check4, outside, check5, check6, sameParts, repeated, check7, check8, checked}
+use Rattle.station.specs.Checks.{orElse, firstRefusal, atWhen, check1, kindAt, misplaced, check2, check3, check4, outside, check5, check6, sameParts, repeated, check7, check8, listChecks}
 use Rattle.order.specs.Reach.{neighbours, endsAt, walk, unreached, null, connected, check9, check10}
-use Rattle.order.specs.Verdict.{verdict10}
+use Rattle.order.specs.Checks.{stationChecks, allChecks}
 use Rattle.order.specs.Order.{candidate, firstOr, extend, order, rankIn}
 use Rattle.order.specs.Ends.{lowerRank, upperRank, lowerPart, upperPart, rankedBy}
 use Rattle.order.specs.Graph.{linesAt}
@@ -89,6 +89,8 @@ pub record Table : Type 0 where
   b-line-2 : routeAt (drawingOfList square) 2 .corners ≡ at 1 3 ∷ []
   b-line-3 : routeAt (drawingOfList square) 3 .corners ≡ at 1 0 ∷ []
   c-order : order (stationOf stationC) ≡ 0 ∷ 3 ∷ 1 ∷ 2 ∷ []
+  -- 'Part 1 can't be second: 2 and 3 would be left unjoined.'
+  c-left : connected (stationOf stationC .cables) (2 ∷ 3 ∷ []) ≡ false
   d-width : drawingOfList stationD .width ≡ 6
   d-height : drawingOfList stationD .height ≡ 6
   d-corners : count (λ w. eqb (kindOf w) corner) (sheetWords (drawingOfList stationD)) ≡ 14
@@ -96,9 +98,28 @@ pub record Table : Type 0 where
   d-crossings : crossings (drawingOfList stationD) ≡ 3
   d-parts : drawingOfList stationD .parts ≡ at 4 1 ∷ at 2 2 ∷ at 1 3 ∷ at 2 4 ∷ at 2 5 ∷ []
   d-line-3 : routeAt (drawingOfList stationD) 3 .corners ≡ at 4 0 ∷ at 6 0 ∷ at 6 6 ∷ at 2 6 ∷ []
+  -- B, C and D pass every check: an output of their words takes them, and one of a word less does not
+  b-drawn :
+      outcome square 11
+      ≡ drawn
+      (0x40001003 ∷ 0x50000000 ∷ 0x50000001 ∷ 0x50000003 ∷ 0x50001002 ∷ 0x60000000 ∷ 0x60001000 ∷ 0x60002001 ∷ 0x70001003 ∷ 0x60003001 ∷ 0x70001000 ∷ [])
+      0
+  b-short : outcome square 10 ≡ sentBack 11 11
+  c-drawn :
+      outcome stationC 14
+      ≡ drawn
+      (0x40002003 ∷ 0x50001000 ∷ 0x50000002 ∷ 0x50000003 ∷ 0x50000001 ∷ 0x60000001 ∷ 0x70001002 ∷ 0x60001001 ∷ 0x70000000 ∷ 0x60002000 ∷ 0x60003000 ∷ 0x60004002 ∷ 0x70002000 ∷ 0x70002003 ∷ [])
+      0
+  c-short : outcome stationC 13 ≡ sentBack 11 14
+  d-drawn :
+      outcome stationD 30
+      ≡ drawn
+      (0x40006006 ∷ 0x50004001 ∷ 0x50002002 ∷ 0x50001003 ∷ 0x50002004 ∷ 0x50002005 ∷ 0x60000001 ∷ 0x70002001 ∷ 0x60001001 ∷ 0x70004003 ∷ 0x60002002 ∷ 0x70005001 ∷ 0x70005004 ∷ 0x60003004 ∷ 0x70004000 ∷ 0x70006000 ∷ 0x70006006 ∷ 0x70002006 ∷ 0x60004001 ∷ 0x70001002 ∷ 0x60005000 ∷ 0x60006002 ∷ 0x70003002 ∷ 0x70003005 ∷ 0x60007002 ∷ 0x70000003 ∷ 0x70000004 ∷ 0x60008001 ∷ 0x70001005 ∷ 0x60009000 ∷ [])
+      3
+  d-short : outcome stationD 29 ≡ sentBack 11 30
 
 pub table : Table
-unfolding seek upFrom range tabulate member any filter count without lastly indexOf insertBy sortBy stationOf cableOf joins degree orElse atWhen check1 kindAt misplaced check2 check3 check4 outside check5 check6 sameParts repeated check7 check8 checked neighbours endsAt walk unreached null connected check9 check10 verdict10 candidate firstOr extend order rankIn lowerRank upperRank lowerPart upperPart rankedBy linesAt takenPlace newLeft newRight newLast moved bottomLine topLine outgoing incoming taken columnAt step columns sameSpot turns dropRepeats pointsOf inner cornersOf bottomRows topRows row partSpot course point between meetingSpot runsCross crossesOver linesCross spotOf routePoints drawnIn layout renumbered drawingBy drawing shareEnd crossPair crossingsOf crossings partSpotWord cornerSpotWord routeWords routesWords headSection partsSection cablesSection sheetWords fitted orDrawn outcome routeAt
+unfolding seek upFrom range tabulate member any filter count without lastly indexOf insertBy sortBy stationOf cableOf joins degree orElse firstRefusal atWhen check1 kindAt misplaced check2 check3 check4 outside check5 check6 sameParts repeated check7 check8 listChecks neighbours endsAt walk unreached null connected check9 check10 stationChecks allChecks candidate firstOr extend order rankIn lowerRank upperRank lowerPart upperPart rankedBy linesAt takenPlace newLeft newRight newLast moved bottomLine topLine outgoing incoming taken columnAt step columns sameSpot turns dropRepeats pointsOf inner cornersOf bottomRows topRows row partSpot course point between meetingSpot runsCross crossesOver linesCross spotOf routePoints drawnIn layout renumbered drawingBy drawing shareEnd crossPair crossingsOf crossings partSpotWord cornerSpotWord routeWords routesWords headSection partsSection cablesSection sheetWords fitted orDrawn outcome routeAt
 table = record {
   refusal-1 = refl;
   refusal-2 = refl;
@@ -119,6 +140,7 @@ table = record {
   b-line-2 = refl;
   b-line-3 = refl;
   c-order = refl;
+  c-left = refl;
   d-width = refl;
   d-height = refl;
   d-corners = refl;
@@ -126,4 +148,10 @@ table = record {
   d-crossings = refl;
   d-parts = refl;
   d-line-3 = refl;
+  b-drawn = refl;
+  b-short = refl;
+  c-drawn = refl;
+  c-short = refl;
+  d-drawn = refl;
+  d-short = refl;
 }

@@ -1,11 +1,13 @@
 -- Demands 2 and 3 as claims about the words of a list and the words of its sheet. Assumes nothing.
-use Prim.Native.Nat.{ℕ, _<_}
+use Prim.Native.Nat.{ℕ, _+_, _<_}
 use mathlib.Core.Path.{_≡_}
 use mathlib.Core.Logic.{_⊎_}
 use mathlib.Core.List.{List}
 use lib.ListN.{length, getD}
-use Rattle.station.specs.Station.{Station, stationOf}
-use Rattle.order.specs.Ends.{noCable}
+use lib.Dec.{eqb}
+use Rattle.lists.specs.Select.{oneIf}
+use Rattle.words.specs.Words.{secondOf}
+use Rattle.station.specs.Station.{Station, stationOf, degree, noCable}
 use Rattle.order.specs.StOrder.{Smallest}
 use Rattle.drawing.specs.Drawing.{Drawing, routeAt, Meets}
 use Rattle.drawing.specs.Sheet.{sheetWords}
@@ -31,6 +33,17 @@ pub record Demand3 (list sheet : List ℕ) : Type 0 where
   pub meetings : Meets (drawingOf list sheet)
   pub sizes : Sizes (stationOf list .parts) (length (stationOf list .cables)) (drawingOf list sheet) sheet
 
--- of demand 2: 'The parts stand in the smallest st-ordering between the two named ends', from the lowest row upward
-abbrev pub Ordered : List ℕ → List ℕ → Type 0
-Ordered list sheet = Smallest (stationOf list) (partsByRow (stationOf list .parts) sheet)
+-- 'Let d be 1 if s has four cables and 0 otherwise'
+unfoldable pub rowsBelow : Station → ℕ
+rowsBelow st = oneIf (eqb (degree (st .cables) (st .source)) 4)
+
+-- the row of part p on a sheet
+unfoldable pub rowOf : List ℕ → ℕ → ℕ
+rowOf sheet p = secondOf (getD sheet (1 + p) 0)
+
+-- of demand 2
+pub record Ordered (list sheet : List ℕ) : Type 0 where
+  -- 'The parts stand in the smallest st-ordering between the two named ends', from the lowest row upward
+  pub smallest : Smallest (stationOf list) (partsByRow (stationOf list .parts) sheet)
+  -- 'Rank k stands in row d + k.'
+  pub rows : (k : ℕ) → k < stationOf list .parts → rowOf sheet (getD (partsByRow (stationOf list .parts) sheet) k 0) ≡ rowsBelow (stationOf list) + k

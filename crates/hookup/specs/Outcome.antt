@@ -5,8 +5,10 @@ use mathlib.Core.List.{List}
 use lib.ListN.{length}
 use lib.Dec.{ltb}
 use Rattle.station.specs.Station.{stationOf}
-use Rattle.station.specs.Checks.{Verdict, passed, refused}
-use Rattle.order.specs.Verdict.{verdict10}
+use Rattle.station.specs.declared.Verdict.{Verdict}
+use Rattle.station.specs.declared.Verdict.the-variants.{Passed, Refused}
+use Rattle.station.specs.Checks.{firstRefusal}
+use Rattle.order.specs.Checks.{allChecks}
 use Rattle.drawing.specs.Drawing.{Drawing, crossings}
 use Rattle.drawing.specs.Sheet.{sheetWords}
 use Rattle.hookup.specs.Drawing.{drawing}
@@ -23,8 +25,8 @@ fitted d room =
     cond (ltb room (length words)) (sentBack 11 (length words)) (drawn words (crossings d))
 
 unfoldable pub orDrawn : Verdict → Outcome → Outcome
-orDrawn passed o = o
-orDrawn (refused check place) o = sentBack check place
+orDrawn Passed o = o
+orDrawn (Refused check place) o = sentBack check place
 
 unfoldable pub outcome : List ℕ → ℕ → Outcome
-outcome list room = orDrawn (verdict10 list) (fitted (drawing (stationOf list)) room)
+outcome list room = orDrawn (firstRefusal allChecks list) (fitted (drawing (stationOf list)) room)

@@ -3,13 +3,13 @@ use layout::lay_out;
 use lists::Found;
 use order::rank_cables;
 use order::rank_parts;
-use station::Verdict8;
+use station::Verdict;
 use writer::crossings::count_crossings;
 use writer::sheet::count_words;
 use writer::sheet::put_sheet;
 ghost use mathlib.Core.Path.{_≡_};
-ghost use Rattle.station.specs.Checks.{passed};
-ghost use Rattle.order.specs.Verdict.{verdict10};
+ghost use Rattle.station.specs.Checks.{Clear};
+ghost use Rattle.order.specs.Checks.{allChecks};
 ghost use Rattle.hookup.specs.Answer.{Drew};
 
 // 'A successful call returns the words written and the crossings'; a refusal 'returns its number and one place, and writes no word'.
@@ -20,7 +20,7 @@ pub enum Answer {
 
 // A list that passed checks 1 to 10 is ranked, laid out and measured; an output too short for it is refused (11) before a word is written.
 fn draw_station(list: &[u32], sheet: &mut [u32]) -> Answer
-    requires { ⌜ verdict10 (now list) ≡ passed ⌝ }
+    requires { ⌜ Clear allChecks (now list) ⌝ }
     ensures { λ r. ⌜ Drew (now (list .entry)) (now (sheet .entry)) (now (sheet .exit)) r ⌝ }
 {
     let ranking = rank_parts(list);
@@ -42,7 +42,7 @@ fn draw_station(list: &[u32], sheet: &mut [u32]) -> Answer
 pub fn draw(list: &[u32], sheet: &mut [u32]) -> Answer
     ensures { λ r. ⌜ Drew (now (list .entry)) (now (sheet .entry)) (now (sheet .exit)) r ⌝ }
 {
-    if let Verdict8::Refused { check, place } = station::check_list(list) {
+    if let Verdict::Refused { check, place } = station::check_list(list) {
         return Answer::Refused { check, place };
     }
     if let Found::At(place) = order::check9(list) {

@@ -7,6 +7,7 @@ use mathlib.Core.Bool.{Bool, not, _&&_, _||_}
 use mathlib.Core.List.{List, [], _∷_, _++_, map, List·Memᴰ, List·Memᴰ·head, List·Memᴰ·tail, Memᴰ·append-left}
 use lib.ListN.{length, getD}
 use lib.Dec.{eqb, ltb}
+use Rattle.words.specs.Limits.{mostParts}
 use Rattle.lists.specs.Select.{range, tabulate, count, sum, oneIf}
 use Rattle.lists.specs.Pairs.{pairs}
 use Rattle.lists.proofs.Select.{getD-mem, getD-tabulate, length-tabulate}
@@ -250,7 +251,7 @@ module _ (G : StGraph) (R : Ranked G) where
     pub words-count : length (sheetWords (layout G)) + G .parts ≡ 3 * size G + 3 + bottomRows G + topRows G
     words-count = omega (arith, words-length (layout G), parts-count G, routes-count G, corner-count G, corners-sum G R two)
 
-    module _ (most : G .parts ≤ 256) where
+    module _ (most : G .parts ≤ mostParts) where
       -- Fields
 
       narrow : columns G (G .parts) .count ≤ 258

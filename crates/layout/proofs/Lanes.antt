@@ -1,7 +1,7 @@
 -- The bottom and the top connection and the course of a cable, as the code reads them. Assumes nothing.
 use Prim.Native.Nat.{ℕ, _+_, _-_, _<_, _≤_}
 use native.Mathlib.Omega.{arith}
-use mathlib.Core.Path.{_≡_, refl, sym, ap, ap₂, _∙_}
+use mathlib.Core.Path.{_≡_, sym, ap, _∙_}
 use mathlib.Core.Bool.{cond}
 use mathlib.Core.List.{List}
 use lib.ListN.{length, getD, take}
@@ -23,7 +23,7 @@ use Rattle.layout.specs.Points.{Course, bottomRows, row, partSpot, cours
 use Rattle.layout.specs.Arrays.{courseIn, Given}
 use Rattle.layout.specs.Incidents.{at, linesIn, Outgoing, Incoming}
 use Rattle.layout.specs.Placements.{ColumnsOf}
-use Rattle.layout.specs.Courses.{EndsOf, cableOf, CableOf, Reaches, IsCourse}
+use Rattle.layout.specs.Courses.{EndsOf, cableOf, Reaches, courseBy}
 use Rattle.layout.proofs.Insertion.{lines-held}
 use Rattle.layout.proofs.Step.{length-parts}
 use Rattle.layout.proofs.Connections.{bottom-fourth, bottom-rows, top-fourth, top-rows}
@@ -58,28 +58,21 @@ course-same :
     → _≡_ {A = Course} (record { from = f; low = l; column = c; high = h; to = t }) (record { from = f′; low = l′; column = c′; high = h′; to = t′ })
 course-same e f g h i = cc
 
--- a part's spot, and a lane
-spot-read : {s : Spot} {ps qs : List ℕ} {a a′ d d′ : ℕ} → s ≡ spotAt (getD ps a 0) (d + a) → ps ≡ qs → a ≡ a′ → d ≡ d′ → s ≡ spotAt (getD qs a′ 0) (d′ + a′)
-spot-read e f g h = cc
+pub course-made :
+    (e : Ends) (c : Cable) (ps : List ℕ) {r : code-course.Course} → spotIn (r .from) ≡ spotAt (getD ps (c .lower) 0) (e .«bottom_rows» + c .lower)
+    → r .low ≡ cond (eqb (c .line) (e .«bottom_line»)) 0 (e .«bottom_rows» + c .lower) → r .column ≡ c .column
+    → r .high ≡ cond (eqb (c .line) (e .«top_line»)) (e .«bottom_rows» + length ps) (e .«bottom_rows» + c .upper)
+    → spotIn (r .to) ≡ spotAt (getD ps (c .upper) 0) (e .«bottom_rows» + c .upper) → courseIn r ≡ courseBy ps e c
+unfolding courseBy
+course-made e c ps f l x h t = course-same f l x h t
 
-lane-read : (i : ℕ) {s l l′ u u′ v v′ d d′ : ℕ} → s ≡ cond (eqb i l) u (d + v) → l ≡ l′ → u ≡ u′ → v ≡ v′ → d ≡ d′ → s ≡ cond (eqb i l′) u′ (d′ + v′)
-lane-read i e f g h j = cc
-
-pub course-read :
-    {e : Ends} {c : Cable} {r : code-course.Course} (ps : List ℕ) (n : ℕ) → n ≡ length ps
-    → spotIn (r .from) ≡ spotAt (getD ps (c .lower) 0) (e .«bottom_rows» + c .lower) → r .low ≡ cond (eqb (c .line) (e .«bottom_line»)) 0 (e .«bottom_rows» + c .lower)
-    → r .column ≡ c .column
-    → r .high ≡ cond (eqb (c .line) (e .«top_line»)) (e .«bottom_rows» + n) (e .«bottom_rows» + c .upper)
-    → spotIn (r .to) ≡ spotAt (getD ps (c .upper) 0) (e .«bottom_rows» + c .upper)
-    → (G : StGraph) → ps ≡ columns G (G .parts) .parts → EndsOf G e → CableOf G c → courseIn r ≡ courseOf G (c .line)
-unfolding courseOf course partSpot row
-course-read {e} {c} ps n q sf sl sc sh st G p h k =
-    course-same
-    (spot-read sf p (k .lower-rank) (h .bottom-rows))
-    (lane-read (c .line) sl (h .bottom-line) refl (k .lower-rank) (h .bottom-rows))
-    (sc ∙ k .own-column)
-    (lane-read (c .line) sh (h .top-line) (ap₂ _+_ (h .bottom-rows) (q ∙ ap length p ∙ length-parts G (G .parts))) (k .upper-rank) (h .bottom-rows))
-    (spot-read st p (k .upper-rank) (h .bottom-rows))
+course-reads :
+    {e : Ends} {ps : List ℕ} (G : StGraph) (i a b x : ℕ) → ps ≡ columns G (G .parts) .parts → EndsOf G e → a ≡ lower G i → b ≡ upper G i
+    → x ≡ getD (columns G (G .parts) .cables) i 0 → courseBy ps e (cableOf i a b x) ≡ courseOf G i
+unfolding courseBy courseOf course partSpot row
+course-reads {e} {ps} G i a b x p h q r s =
+    let n : length ps ≡ G .parts = ap length p ∙ length-parts G (G .parts) in
+    rw (n, p, h .bottom-rows, h .bottom-line, h .top-line, q, r, s)
 
 -- The cable at line i, of arrays
 
@@ -87,32 +80,27 @@ module _
     {g : Graph} (v : Given g) {c : code-columns.Columns} (s : ColumnsOf g (g .parts) c) (i : ℕ) (b : i < g .cables)
     {k : Cable} (q : k ≡ cableOf i (getD (g .lower) i 0) (getD (g .upper) i 0) (getD (c .cables) i 0)) {e : Ends} (h : EndsOf (graphIn g) e)
   where
-    cable-read : CableOf (graphIn g) k
-    cable-read =
-        rw q
-        (record {
-          lower-rank = sym (getD-take (g .cables) (g .lower) i 0 b);
-          upper-rank = sym (getD-take (g .cables) (g .upper) i 0 b);
-          own-column = sym (getD-take (g .cables) (c .cables) i 0 b) ∙ ap (λ (l : List ℕ). getD l i 0) (s .cables);
-        })
+    lower-read : getD (g .lower) i 0 ≡ lower (graphIn g) i
+    lower-read = sym (getD-take (g .cables) (g .lower) i 0 b)
 
-    on-line : k .line ≡ i
-    on-line = ap (λ (z : Cable). z .line) q
+    upper-read : getD (g .upper) i 0 ≡ upper (graphIn g) i
+    upper-read = sym (getD-take (g .cables) (g .upper) i 0 b)
+
+    column-read : getD (c .cables) i 0 ≡ getD (columns (graphIn g) (g .parts) .cables) i 0
+    column-read = sym (getD-take (g .cables) (c .cables) i 0 b) ∙ ap (λ (l : List ℕ). getD l i 0) (s .cables)
 
     pub cable-reaches : (n : ℕ) → g .cables ≡ size (graphIn g) → g .parts ≡ n → Reaches n e k
     unfolding bottomRows
     cable-reaches n f p =
-        let r = cable-read in
-        let low : k .lower ≡ lower (graphIn g) i = r .lower-rank ∙ ap (lower (graphIn g)) on-line in
-        let high : k .upper ≡ upper (graphIn g) i = r .upper-rank ∙ ap (upper (graphIn g)) on-line in
         let u = v .ranked .rises i (omega arith) in
         let w = v .ranked .inside i (omega arith) in
-        record {
-          lower-part = omega arith;
-          upper-part = omega arith;
+        rw q
+        (record {
+          lower-part = omega (arith, lower-read);
+          upper-part = omega (arith, upper-read);
           most = omega (arith, v .most);
           below = omega (arith, h .bottom-rows, oneIf-le (eqb (length (linesAt (size (graphIn g)) (lower (graphIn g)) 0)) 4));
-        }
+        })
 
-    pub cable-course : {r : code-course.Course} → IsCourse (take (g .parts) (c .parts)) e k r → courseIn r ≡ courseOf (graphIn g) i
-    cable-course t = t (graphIn g) (s .parts) h cable-read ∙ ap (courseOf (graphIn g)) on-line
+    pub cable-course : {r : code-course.Course} → courseIn r ≡ courseBy (take (g .parts) (c .parts)) e k → courseIn r ≡ courseOf (graphIn g) i
+    cable-course t = t ∙ rw q (course-reads (graphIn g) i _ _ _ (s .parts) h lower-read upper-read column-read)

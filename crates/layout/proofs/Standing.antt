@@ -8,6 +8,7 @@ use mathlib.Core.List.{List, [], _∷_, _++_, map}
 use lib.ListN.{length, getD, take, replicate}
 use lib.Seq.{getD-take}
 use lib.Dec.{eqb}
+use Rattle.words.specs.Limits.{mostCables}
 use Rattle.lists.specs.Select.{tabulate, indexOf, oneIf}
 use Rattle.lists.proofs.Agree.{tabulate-same}
 use Rattle.lists.proofs.Kept.{take-replicate}
@@ -157,6 +158,6 @@ module _ {g : Graph} {k : ℕ} {c : code-columns.Columns} (s : ColumnsOf g k c) 
         count = ap₂ _+_ (last-same q) (hn ∙ ap (λ (j : ℕ). oneIf (eqb j 4)) (q .opens .count));
       })
 
-pub columns-start : {g : Graph} {ps : List ℕ} → Given g → g .cables ≡ size (graphIn g) → ColumnsOf g 0 (record { cables = replicate 512 0; parts = ps; count = 1 })
+pub columns-start : {g : Graph} {ps : List ℕ} → Given g → g .cables ≡ size (graphIn g) → ColumnsOf g 0 (record { cables = replicate mostCables 0; parts = ps; count = 1 })
 unfolding columns
-columns-start {g} v e = record { cables = take-replicate (g .cables) 512 0 (v .cables) ∙ ap (λ (m : ℕ). replicate m 0) e; parts = refl; count = refl }
+columns-start {g} v e = record { cables = take-replicate (g .cables) mostCables 0 (v .cables) ∙ ap (λ (m : ℕ). replicate m 0) e; parts = refl; count = refl }

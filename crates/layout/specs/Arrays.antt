@@ -3,6 +3,7 @@ use Prim.Native.Nat.{ℕ, _<_, _≤_}
 use mathlib.Core.Path.{_≡_}
 use mathlib.Core.List.{List}
 use lib.ListN.{getD, take}
+use Rattle.words.specs.Limits.{mostParts, mostCables}
 use Rattle.order.specs.Graph.{StGraph, Ranked}
 use Rattle.order.specs.Arrays.{graphIn}
 use Rattle.order.specs.declared.Graph.{Graph}
@@ -22,9 +23,9 @@ noCourse = record { from = record { x = 0; y = 0 }; low = 0; column = 0; high = 
 -- a graph that the layout may start from: ranked, and within the arrays
 pub record Given (g : Graph) : Type 0 where
   pub ranked : Ranked (graphIn g)
-  pub cables : g .cables ≤ 512
+  pub cables : g .cables ≤ mostCables
   pub least : 2 ≤ g .parts
-  pub most : g .parts ≤ 256
+  pub most : g .parts ≤ mostParts
 
 -- l is the layout of its graph
 pub record Laid (l : Layout) : Type 0 where

@@ -1,15 +1,17 @@
 -- What the contracts say of the courses: of what all of them share, and of one. Assumes nothing.
-use Prim.Native.Nat.{ℕ, _<_, _≤_}
+use Prim.Native.Nat.{ℕ, _+_, _<_, _≤_}
 use mathlib.Core.Path.{_≡_}
 use mathlib.Core.List.{List}
-use lib.ListN.{getD}
-use Rattle.order.specs.Graph.{StGraph, lower, upper}
-use Rattle.layout.specs.declared.Course as code-course
+use Rattle.words.specs.Limits.{mostParts}
+use mathlib.Core.Bool.{cond}
+use lib.ListN.{length, getD}
+use lib.Dec.{eqb}
+use Rattle.order.specs.Graph.{StGraph}
+use Rattle.drawing.specs.Spots.{spotAt}
 use Rattle.layout.specs.declared.ends.Ends.{Ends}
 use Rattle.layout.specs.declared.courses.Cable.{Cable}
 use Rattle.layout.specs.Columns.{bottomLine, topLine, columns}
-use Rattle.layout.specs.Points.{bottomRows, topRows, courseOf}
-use Rattle.layout.specs.Arrays.{courseIn}
+use Rattle.layout.specs.Points.{Course, bottomRows, topRows}
 
 -- what the courses of the graph's cables share
 pub record EndsOf (G : StGraph) (e : Ends) : Type 0 where
@@ -21,19 +23,19 @@ pub record EndsOf (G : StGraph) (e : Ends) : Type 0 where
 abbrev pub cableOf : ℕ → ℕ → ℕ → ℕ → Cable
 cableOf i a b x = record { line = i; lower = a; upper = b; column = x }
 
--- the cable of the graph at its line, once all ranks stand
-pub record CableOf (G : StGraph) (c : Cable) : Type 0 where
-  pub lower-rank : c .lower ≡ lower G (c .line)
-  pub upper-rank : c .upper ≡ upper G (c .line)
-  pub own-column : c .column ≡ getD (columns G (G .parts) .cables) (c .line) 0
-
 -- the cable's parts are among the n whose columns are given, and its rows are within 16 bits
 pub record Reaches (n : ℕ) (e : Ends) (c : Cable) : Type 0 where
   pub lower-part : c .lower < n
   pub upper-part : c .upper < n
-  pub most : n ≤ 256
+  pub most : n ≤ mostParts
   pub below : e .«bottom_rows» ≤ 1
 
--- r is the cable's course, of any graph whose cable it is and whose parts have the columns ps
-abbrev pub IsCourse : List ℕ → Ends → Cable → code-course.Course → Type 0
-IsCourse ps e c r = (G : StGraph) → ps ≡ columns G (G .parts) .parts → EndsOf G e → CableOf G c → courseIn r ≡ courseOf G (c .line)
+-- the cable's course, where the parts have the columns ps
+unfoldable pub courseBy : List ℕ → Ends → Cable → Course
+courseBy ps e c = record {
+  from = spotAt (getD ps (c .lower) 0) (e .«bottom_rows» + c .lower);
+  low = cond (eqb (c .line) (e .«bottom_line»)) 0 (e .«bottom_rows» + c .lower);
+  column = c .column;
+  high = cond (eqb (c .line) (e .«top_line»)) (e .«bottom_rows» + length ps) (e .«bottom_rows» + c .upper);
+  to = spotAt (getD ps (c .upper) 0) (e .«bottom_rows» + c .upper);
+}

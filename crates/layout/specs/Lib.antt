@@ -2,9 +2,9 @@
 pub mod Columns
 pub mod Points
 pub mod Layout
+-- What the code keeps
 pub mod Over
 pub mod Arrays
--- what the contracts inside this crate cite
 pub mod Incidents
 pub mod Placements
 pub mod Courses

@@ -4,6 +4,7 @@ use crate::Course;
 use crate::ends::Ends;
 use drawing::Spot;
 use order::Graph;
+use words::limits::MOST_CABLES;
 ghost use mathlib.Core.Path.{_≡_};
 ghost use mathlib.Core.Bool.{cond};
 ghost use Prim.Native.Nat.{ℕ, _+_, _<_};
@@ -14,7 +15,7 @@ ghost use Rattle.layout.specs.Points.{courseOf};
 ghost use Rattle.layout.specs.Arrays.{Given, courseIn, noCourse};
 ghost use Rattle.layout.specs.Incidents.{at};
 ghost use Rattle.layout.specs.Placements.{ColumnsOf};
-ghost use Rattle.layout.specs.Courses.{EndsOf, cableOf, Reaches, IsCourse};
+ghost use Rattle.layout.specs.Courses.{EndsOf, cableOf, Reaches, courseBy};
 
 // A cable: its line, the ranks of its lower and its upper part, and its column.
 pub struct Cable {
@@ -57,7 +58,7 @@ fn part_spot(parts: &[u16], bottom_rows: u16, k: u16) -> Spot
 // A cable leaves its part in the part's row and comes in so; the bottom connection 'turns in row 0', and the top connection goes 'to row d + n'.
 fn course_of(parts: &[u16], ends: Ends, cable: Cable) -> Course
     requires { ⌜ Reaches (length (now parts)) ends cable ⌝ }
-    ensures { λ r. ⌜ IsCourse (now (parts .entry)) ends cable r ⌝ }
+    ensures { λ r. ⌜ courseIn r ≡ courseBy (now (parts .entry)) ends cable ⌝ }
 {
     let bottom_rows = ends.bottom_rows;
     let n = parts.len() as u16;
@@ -89,7 +90,7 @@ fn no_course() -> Course
 }
 
 // The course of every cable, by line.
-pub fn courses_of(graph: Graph, columns: Columns, ends: Ends) -> [Course; 512]
+pub fn courses_of(graph: Graph, columns: Columns, ends: Ends) -> [Course; MOST_CABLES]
     requires { ⌜ Given graph ⌝ }
     requires { ⌜ ColumnsOf graph (graph .parts) columns ⌝ }
     requires { ⌜ EndsOf (graphIn graph) ends ⌝ }
@@ -101,7 +102,7 @@ pub fn courses_of(graph: Graph, columns: Columns, ends: Ends) -> [Course; 512]
     let parts = columns.parts;
     let n = graph.parts;
     let m = graph.cables;
-    let mut courses = [no_course(); 512];
+    let mut courses = [no_course(); MOST_CABLES];
     let mut i = 0;
     while i < m {
         let cable = cable_of(i, lower[i], upper[i], cables[i]);

@@ -1,6 +1,8 @@
 // The layout of a station's cables in ranks: the columns of parts and cables, and the course of each cable.
 use drawing::Spot;
 use order::Graph;
+use words::limits::MOST_CABLES;
+use words::limits::MOST_PARTS;
 
 mod courses;
 mod ends;
@@ -21,8 +23,8 @@ pub struct Course {
 
 // The column of each cable by line and of each part by rank, and the count of columns.
 pub struct Columns {
-    pub cables: [u16; 512],
-    pub parts: [u16; 256],
+    pub cables: [u16; MOST_CABLES],
+    pub parts: [u16; MOST_PARTS],
     pub count: u16,
 }
 
@@ -32,7 +34,7 @@ pub struct Layout {
     pub columns: Columns,
     pub bottom_rows: u16,
     pub top_rows: u16,
-    pub courses: [Course; 512],
+    pub courses: [Course; MOST_CABLES],
 }
 
 // The layout of a graph.

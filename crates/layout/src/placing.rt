@@ -7,11 +7,14 @@ use crate::incident::outgoing;
 use crate::incident::rank_at;
 use crate::incident::taken;
 use order::Graph;
+use words::limits::MOST_CABLES;
+use words::limits::MOST_PARTS;
 ghost use mathlib.Core.Path.{_≡_};
 ghost use mathlib.Core.Bool.{cond};
 ghost use mathlib.Core.List.{[], _∷_, _++_, map};
 ghost use Prim.Native.Nat.{ℕ, _+_, _≤_, _<_};
 ghost use lib.ListN.{length, getD, take};
+ghost use Rattle.words.specs.Limits.{mostParts, mostCables};
 ghost use Rattle.lists.specs.Select.{indexOf, oneIf, tabulate};
 ghost use Rattle.order.specs.Arrays.{graphIn};
 ghost use Rattle.layout.specs.Columns.{newLeft, newRight, moved};
@@ -117,9 +120,14 @@ fn cable_column(placement: Placement, opens: bool, line: usize, x: u16) -> u16
 }
 
 // The columns of the cables once rank k stands.
-fn cables_after(lower: &[u8], k: u16, placement: Placement, cables: [u16; 512]) -> [u16; 512]
+fn cables_after(
+    lower: &[u8],
+    k: u16,
+    placement: Placement,
+    cables: [u16; MOST_CABLES],
+) -> [u16; MOST_CABLES]
     requires { ⌜ Room placement ⌝ }
-    requires { ⌜ length (now lower) ≤ 512 ⌝ }
+    requires { ⌜ length (now lower) ≤ mostCables ⌝ }
     requires { ⌜ ((i : ℕ) → i < length (now lower) → getD cables i 0 < 32768) ⌝ }
     ensures { λ r. ⌜ take (length (now (lower .entry))) r ≡ tabulate (length (now (lower .entry))) (cableBy (now (lower .entry)) k placement cables) ⌝ }
 {
@@ -133,9 +141,9 @@ fn cables_after(lower: &[u8], k: u16, placement: Placement, cables: [u16; 512]) 
 }
 
 // The columns of the parts once rank k stands.
-fn parts_after(placement: Placement, k: usize, parts: [u16; 256]) -> [u16; 256]
+fn parts_after(placement: Placement, k: usize, parts: [u16; MOST_PARTS]) -> [u16; MOST_PARTS]
     requires { ⌜ Room placement ⌝ }
-    requires { ⌜ k < 256 ⌝ }
+    requires { ⌜ k < mostParts ⌝ }
     requires { ⌜ ((i : ℕ) → i < k → getD parts i 0 < 32768) ⌝ }
     ensures { λ r. ⌜ take (k + 1) r ≡ map (movedBy placement) (take k parts) ++ (placement .column + placement .left) ∷ [] ⌝ }
 {
@@ -176,8 +184,8 @@ pub fn columns_of(graph: Graph) -> Columns
 {
     let n = graph.parts;
     let mut columns = Columns {
-        cables: [0; 512],
-        parts: [0; 256],
+        cables: [0; MOST_CABLES],
+        parts: [0; MOST_PARTS],
         count: 1,
     };
     let mut k = 0;

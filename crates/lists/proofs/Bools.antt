@@ -1,6 +1,6 @@
 -- Laws of the connectives of tests: taken apart, put together, and two tests that pass together are equal. Assumes nothing.
 use mathlib.Core.Path.{_≡_, refl, sym}
-use mathlib.Core.Bool.{Bool, true, false, not, _&&_, _||_, true≢false}
+use mathlib.Core.Bool.{Bool, true, false, not, _&&_, _||_, true≢false, false≢true}
 use mathlib.Core.Logic.{_⊎_, inl, inr}
 
 pub and-e : (a b : Bool) → (a && b) ≡ true → (a ≡ true) × (b ≡ true)
@@ -20,6 +20,15 @@ or-left a b h = rw h
 pub or-right : (a b : Bool) → b ≡ true → (a || b) ≡ true
 or-right true b h = refl
 or-right false b h = h
+
+-- what a failed test leaves
+pub or-fails : (a b : Bool) → (a || b) ≡ false → (a ≡ false) × (b ≡ false)
+or-fails true b h = absurd (true≢false h)
+or-fails false b h = (refl, h)
+
+pub and-fails : (a b : Bool) → (a && b) ≡ false → a ≡ true → b ≡ false
+and-fails true b h g = h
+and-fails false b h g = absurd (false≢true g)
 
 pub not-e : (a : Bool) → not a ≡ true → a ≡ true → ⊥
 not-e true h g = true≢false (sym h)

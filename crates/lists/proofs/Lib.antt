@@ -22,3 +22,5 @@ pub mod Kept
 pub mod Agree
 pub mod Lastly
 pub mod Same
+pub mod Slices
+pub mod Seeking

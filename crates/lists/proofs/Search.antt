@@ -2,7 +2,7 @@
 -- loop's end need. Assumes nothing.
 use Prim.Native.Nat.{ℕ, zero, suc, _+_, _-_, _≤_, _<_}
 use mathlib.Core.Path.{_≡_, refl, _∙_}
-use mathlib.Core.Bool.{Bool, true, false, cond, _||_}
+use mathlib.Core.Bool.{Bool, true, false, cond, _||_, true≢false}
 use native.Mathlib.Omega.{arith}
 use Rattle.lists.specs.declared.Found.{Found}
 use Rattle.lists.specs.declared.Found.the-variants.{At, Nothing}
@@ -23,6 +23,10 @@ module _ (p : ℕ → Bool) where
   pub seek-end : (i n : ℕ) → n ≤ i → seek p i (n - i) ≡ Nothing
   unfolding seek
   seek-end i n h = let e : n - i ≡ 0 = omega arith in rw e
+
+pub not-found : (f : Found) → isFound f ≡ false → f ≡ Nothing
+not-found (At i) e = absurd (true≢false e)
+not-found Nothing e = refl
 
 -- one number more at the end of the range
 later-found : (b r : Bool) (i : ℕ) (x y : Found) → isFound x ≡ isFound y || r → isFound (cond b (At i) x) ≡ isFound (cond b (At i) y) || r

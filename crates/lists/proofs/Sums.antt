@@ -1,7 +1,7 @@
 -- Counts and sums over the numbers below m: one number more, a test and its opposite, one number of each key. Assumes nothing.
-use Prim.Native.Nat.{ℕ, zero, suc, _+_, _<_, _≤_}
+use Prim.Native.Nat.{ℕ, zero, suc, _+_, _*_, _<_, _≤_}
 use mathlib.Core.Path.{_≡_, refl, sym, _∙_, ap}
-use mathlib.Core.Bool.{Bool, true, false, not, _&&_, and-false}
+use mathlib.Core.Bool.{Bool, true, false, not, _&&_, _||_, and-false}
 use mathlib.Core.List.{List, [], _∷_, _++_, map-append}
 use native.Mathlib.Omega.{arith}
 use native.Mathlib.Nat.{add-zero}
@@ -11,7 +11,7 @@ use lib.Dec.{eqb, ltb}
 use borrow.Author.Tests.{eqb-true, eq-eqb, ne-eqb, lt-ltb, le-ltb}
 use Rattle.lists.specs.Select.{upFrom, range, tabulate, count, sum, oneIf}
 use Rattle.lists.proofs.Bools.{and-e}
-use Rattle.lists.proofs.Tests.{oneIf-le}
+use Rattle.lists.proofs.Tests.{oneIf-le, oneIf-or}
 
 pub upFrom-suc : (s k : ℕ) → upFrom s (suc k) ≡ upFrom s k ++ (s + k) ∷ []
 unfolding upFrom
@@ -67,6 +67,21 @@ pub count-either :
 count-either p q r zero h = omega (arith, count-range-zero p)
 count-either p q r (suc m) h =
     omega (arith, count-range p m, count-range q m, count-range r m, h m (omega arith), count-either p q r m (λ i l. h i (omega arith)))
+
+-- two tests that no number passes together
+pub count-or :
+    (p q : ℕ → Bool) (m : ℕ) → ((i : ℕ) → i < m → p i ≡ true → q i ≡ false)
+    → count (λ i. p i || q i) (range m) ≡ count p (range m) + count q (range m)
+count-or p q zero h = omega (arith, count-range-zero p, count-range-zero q, count-range-zero (λ i. p i || q i))
+count-or p q (suc m) h =
+    omega (
+      arith,
+      count-range p m,
+      count-range q m,
+      count-range (λ i. p i || q i) m,
+      oneIf-or (p m) (q m) (h m (omega arith)),
+      count-or p q m (λ i l. h i (omega arith)),
+    )
 
 -- exactly one number passes
 pub count-one :
@@ -165,6 +180,10 @@ sum-ext f g (suc m) h = omega (arith, sum-tabulate f m, sum-tabulate g m, h m (o
 pub sum-add : (f g : ℕ → ℕ) (m : ℕ) → sum (tabulate m (λ i. f i + g i)) ≡ sum (tabulate m f) + sum (tabulate m g)
 sum-add f g zero = rw (sum-tabulate-zero f, sum-tabulate-zero g, sum-tabulate-zero (λ i. f i + g i)) refl
 sum-add f g (suc m) = omega (arith, sum-tabulate f m, sum-tabulate g m, sum-tabulate (λ i. f i + g i) m, sum-add f g m)
+
+pub sum-le : (f : ℕ → ℕ) (m b : ℕ) → ((i : ℕ) → i < m → f i ≤ b) → sum (tabulate m f) ≤ m * b
+sum-le f zero b h = omega (arith, sum-tabulate-zero f)
+sum-le f (suc m) b h = omega (arith, sum-tabulate f m, h m (omega arith), sum-le f m b (λ i l. h i (omega arith)))
 
 pub sum-oneIf : (q : ℕ → Bool) (m : ℕ) → sum (tabulate m (λ i. oneIf (q i))) ≡ count q (range m)
 sum-oneIf q zero = sum-tabulate-zero (λ i. oneIf (q i)) ∙ sym (count-range-zero q)

@@ -18,7 +18,7 @@ use Rattle.order.specs.Order.{candidate}
 use Rattle.order.proofs.Paths.{path-start, path-end, path-wider, path-on, path-back, path-off, path-last, path-leaves}
 use Rattle.order.proofs.Reach.{Among, reached, unreached-iff, AllJoined, connected-iff}
 use Rattle.order.proofs.Checks.{Off}
-use Rattle.order.proofs.Weak.{Orderable}
+use Rattle.order.proofs.Bipolar.{Orderable}
 
 -- 'an unranked part, other than t, that is joined to a ranked part and whose removal from the unranked parts leaves those that remain joined to each other'
 pub record Candidate (cs : List Cable) (t : ℕ) (unranked : List ℕ) (w : ℕ) : Type 0 where
@@ -147,7 +147,7 @@ module _ (st : Station) (unranked : List ℕ) (R : Rest st unranked) where
 
     -- Where c is stuck without w, some part joined to a ranked one is.
     next-stuck : (w c : ℕ) → List·Memᴰ w unranked → (w ≡ st .analyser → ⊥) → Stuck w c → (w′ : ℕ) × Stuck w w′ × Front st unranked w w′
-    next-stuck w c m n a = to (H .weak w c (R .inside w m) (R .inside c (b .0)) (b .1))
+    next-stuck w c m n a = to (H .bipolar w c (R .inside w m) (R .inside c (b .0)) (b .1))
       where
         b : List·Memᴰ c unranked × (c ≡ w → ⊥)
         b = without-e w unranked (a .0)
@@ -167,7 +167,7 @@ module _ (st : Station) (unranked : List ℕ) (R : Rest st unranked) where
         to (inr r) = made (leaves w c (st .analyser) (b .0) r (λ q. a .1 (path-wider (st .cables) in-rest q)))
 
     first-front : (x : ℕ) → List·Memᴰ x unranked → (x ≡ st .analyser → ⊥) → (w : ℕ) × Front st unranked (st .analyser) w
-    first-front x m n = to (H .weak (st .analyser) x (H .analyser) (R .inside x m) n)
+    first-front x m n = to (H .bipolar (st .analyser) x (H .analyser) (R .inside x m) n)
       where
         to : Path (st .cables) (Off (st .parts) (st .analyser)) (st .source) x ⊎ Path (st .cables) (Off (st .parts) (st .analyser)) (st .analyser) x
             → (w : ℕ) × Front st unranked (st .analyser) w
@@ -255,7 +255,7 @@ rest-start st H =
     on x (inr r) = path-wider (st .cables) in-set r
 
     to : (x : ℕ) → List·Memᴰ x (range (st .parts)) × (x ≡ st .source → ⊥) → Path (st .cables) (Among set) (st .analyser) x
-    to x h = on x (H .weak (st .source) x (H .source) (range-e (st .parts) (h .0)) (h .1))
+    to x h = on x (H .bipolar (st .source) x (H .source) (range-e (st .parts) (h .0)) (h .1))
 
 pub rest-step : (st : Station) (unranked : List ℕ) (w : ℕ) → Rest st unranked → Candidate (st .cables) (st .analyser) unranked w → Rest st (without w unranked)
 rest-step st unranked w R c =

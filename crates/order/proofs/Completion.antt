@@ -17,7 +17,7 @@ use Rattle.order.specs.Reach.{Joined, Path, arrived, onward}
 use Rattle.order.specs.Order.{candidate, firstOr, extend}
 use Rattle.order.proofs.Paths.{path-start, path-wider, path-on, path-back, path-last}
 use Rattle.order.proofs.Reach.{Among}
-use Rattle.order.proofs.Weak.{Orderable}
+use Rattle.order.proofs.Bipolar.{Orderable}
 use Rattle.order.proofs.Candidates.{Candidate, candidate-iff, Rest, never-sticks, rest-step}
 
 -- A list of the unranked parts that ends at t, in which every other part is joined to a ranked or earlier one and to a later one.

@@ -8,11 +8,11 @@ use mathlib.Core.List.{List}
 use lib.ListN.{length, getD}
 use lib.Dec.{leb}
 use borrow.Author.Tests.{leb-true, leb-false}
-use Rattle.station.specs.Station.{Cable, Station}
+use Rattle.station.specs.Station.{Cable, Station, noCable}
 use Rattle.order.specs.Order.{order, rankIn}
 use Rattle.order.specs.Graph.{lower, upper}
-use Rattle.order.specs.Ends.{noCable, lowerPart, upperPart, graphOf}
-use Rattle.order.proofs.Weak.{Orderable}
+use Rattle.order.specs.Ends.{lowerPart, upperPart, graphOf}
+use Rattle.order.proofs.Bipolar.{Orderable}
 use Rattle.order.proofs.Ranks.{lower-is, upper-is, part-of-rank}
 
 module _ (l : List ℕ) (c : Cable) where

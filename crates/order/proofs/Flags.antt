@@ -9,6 +9,7 @@ use lib.ListN.{length, getD, set, replicate, getD-replicate, List·getD-eq-defau
 use lib.Seq.{getD-set-same, getD-set-other, set-out}
 use lib.Dec.{eqb}
 use borrow.Author.Tests.{eq-eqb, ne-eqb}
+use Rattle.words.specs.Limits.{mostParts}
 use Rattle.lists.specs.declared.Found.{Found}
 use Rattle.lists.specs.Search.{seek}
 use Rattle.lists.specs.Select.{range, member, without}
@@ -71,6 +72,6 @@ pub front-flagged : {n n′ : ℕ} (flags : List Bool) {r x : Found} → n ≡ n
 front-flagged {n} {n′} flags {r} {x} e f g = sym (lowest-flagged n′ flags) ∙ ap (λ (k : ℕ). seek (λ p. getD flags p false) 0 k) (sym e) ∙ sym f ∙ g
 
 -- every part
-pub flagged-all : (n : ℕ) → n ≤ 256 → flagged n (replicate 256 true) ≡ range n
+pub flagged-all : (n : ℕ) → n ≤ mostParts → flagged n (replicate mostParts true) ≡ range n
 unfolding flagged
-flagged-all n h = filter-same _ (λ p. true) (range n) (λ p m. getD-replicate 256 p true false (omega (arith, range-e n m))) ∙ filter-true (range n)
+flagged-all n h = filter-same _ (λ p. true) (range n) (λ p m. getD-replicate mostParts p true false (omega (arith, range-e n m))) ∙ filter-true (range n)

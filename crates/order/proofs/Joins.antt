@@ -9,9 +9,8 @@ use lib.ListN.{length, getD}
 use lib.Dec.{eqb}
 use borrow.Author.Tests.{eqb-true, eq-eqb}
 use Rattle.lists.specs.Select.{consIf}
-use Rattle.station.specs.Station.{Cable}
+use Rattle.station.specs.Station.{Cable, noCable}
 use Rattle.order.specs.Reach.{neighbours, Joined}
-use Rattle.order.specs.Ends.{noCable}
 
 -- the cable of a line
 abbrev pub cableAt : List Cable → ℕ → Cable

@@ -4,7 +4,7 @@ pub mod Joins
 pub mod Paths
 pub mod Reach
 pub mod Checks
-pub mod Weak
+pub mod Bipolar
 pub mod Candidates
 pub mod Completion
 pub mod StOrder
@@ -14,13 +14,15 @@ pub mod Ends
 pub mod Graphs
 pub mod Passed
 pub mod Triangle
-pub mod Rows
+pub mod AdjacencyTable
 pub mod Flags
 pub mod Walks
 pub mod Walking
 pub mod Connected
 pub mod Separation
+pub mod Witnesses
 pub mod Choices
+pub mod PartsByRank
 pub mod Rankings
 pub mod Drawables
 pub mod LineRanks

@@ -5,19 +5,20 @@ use mathlib.Core.Path.{_≡_, refl, sym, ap, ap₂, _∙_}
 use mathlib.Core.List.{List}
 use lib.ListN.{length, getD, take, replicate, length-replicate, List·getD-map}
 use lib.Seq.{ext-getD, getD-take, length-take-le}
+use Rattle.words.specs.Limits.{mostParts, mostCables}
 use Rattle.lists.proofs.Fill.{Filled, filled-none}
 use Rattle.words.specs.declared.Rank.{Rank}
-use Rattle.station.specs.Station.{Cable, cableOf, stationOf}
-use Rattle.station.specs.Checks.{passed}
-use Rattle.station.proofs.Cables.{cables-count, cable-is}
+use Rattle.station.specs.Station.{Cable, stationOf, noCable}
+use Rattle.station.specs.Checks.{Clear}
+use Rattle.station.proofs.Cables.{cables-count}
 use Rattle.order.specs.declared.Ranking.{Ranking}
-use Rattle.order.specs.Verdict.{verdict10}
+use Rattle.order.specs.Checks.{allChecks}
 use Rattle.order.specs.Order.{order, rankIn}
 use Rattle.order.specs.Graph.{StGraph, lower, upper}
-use Rattle.order.specs.Ends.{noCable, graphOf}
+use Rattle.order.specs.Ends.{graphOf}
 use Rattle.order.specs.Ranking.{rankNumbers, RankingOf}
 use Rattle.order.proofs.Ranks.{graph-parts, graph-size, lower-is, upper-is}
-use Rattle.order.proofs.Passed.{list-ranked, cables-most}
+use Rattle.order.proofs.Passed.{list-ranked, lines-most}
 use Rattle.order.proofs.Drawables.{drawable10}
 
 -- the rank that stands at a place
@@ -28,30 +29,26 @@ rank-number : (ranks : List Rank) (p : ℕ) → rankAt ranks p ≡ getD (rankNum
 unfolding rankNumbers
 rank-number ranks p = sym (List·getD-map (λ (k : Rank). k .0) ranks p (record { 0 = 0 }))
 
--- a line that there is, whatever stands beyond the last
-same-cable : (list : List ℕ) (i : ℕ) → i < length (stationOf list .cables) → getD (stationOf list .cables) i (cableOf 0) ≡ getD (stationOf list .cables) i noCable
-same-cable list i h = cable-is list i (cableOf 0) h ∙ sym (cable-is list i noCable h)
-
-module _ (list : List ℕ) (pass : verdict10 list ≡ passed) where
+module _ (list : List ℕ) (pass : Clear allChecks list) where
   pub line-word : (i : ℕ) → i < length (stationOf list .cables) → 2 + i < length list
   line-word i h = omega (arith, cables-count list)
 
-  pub one-below : (i : ℕ) {p : ℕ} → p ≡ getD (stationOf list .cables) i (cableOf 0) .one → p < 256
+  pub one-below : (i : ℕ) {p : ℕ} → p ≡ getD (stationOf list .cables) i noCable .one → p < mostParts
   one-below i e = omega (arith, e, drawable10 list pass .one i, drawable10 list pass .most)
 
-  pub other-below : (i : ℕ) {p : ℕ} → p ≡ getD (stationOf list .cables) i (cableOf 0) .other → p < 256
+  pub other-below : (i : ℕ) {p : ℕ} → p ≡ getD (stationOf list .cables) i noCable .other → p < mostParts
   other-below i e = omega (arith, e, drawable10 list pass .other i, drawable10 list pass .most)
 
-  module _ {r : Ranking} (R : RankingOf (stationOf list) r) (i : ℕ) {p q : ℕ} (h : i < length (stationOf list .cables)) (ep : p ≡ getD (stationOf list .cables) i (cableOf 0) .one) (eq : q ≡ getD (stationOf list .cables) i (cableOf 0) .other) where
+  module _ {r : Ranking} (R : RankingOf (stationOf list) r) (i : ℕ) {p q : ℕ} (h : i < length (stationOf list .cables)) (ep : p ≡ getD (stationOf list .cables) i noCable .one) (eq : q ≡ getD (stationOf list .cables) i noCable .other) where
     one-rank : rankAt (r .rank) p ≡ rankIn (order (stationOf list)) (getD (stationOf list .cables) i noCable .one)
     one-rank =
         rank-number (r .rank) p ∙ R .rank p (omega (arith, ep, drawable10 list pass .one i))
-        ∙ ap (rankIn (order (stationOf list))) (ep ∙ ap (λ (c : Cable). c .one) (same-cable list i h))
+        ∙ ap (rankIn (order (stationOf list))) ep
 
     other-rank : rankAt (r .rank) q ≡ rankIn (order (stationOf list)) (getD (stationOf list .cables) i noCable .other)
     other-rank =
         rank-number (r .rank) q ∙ R .rank q (omega (arith, eq, drawable10 list pass .other i))
-        ∙ ap (rankIn (order (stationOf list))) (eq ∙ ap (λ (c : Cable). c .other) (same-cable list i h))
+        ∙ ap (rankIn (order (stationOf list))) eq
 
     pub lower-line : {k : ℕ} → k ≡ min (rankAt (r .rank) p) (rankAt (r .rank) q) → k ≡ lower (graphOf (stationOf list)) i
     lower-line e = e ∙ ap₂ min one-rank other-rank ∙ sym (lower-is (stationOf list) i h)
@@ -61,18 +58,18 @@ module _ (list : List ℕ) (pass : verdict10 list ≡ passed) where
 
 -- an array as it is made
 pub blank : List ℕ
-blank = replicate 512 0
+blank = replicate mostCables 0
 
-pub length-blank : length blank ≡ 512
+pub length-blank : length blank ≡ mostCables
 unfolding blank
-length-blank = length-replicate {A = ℕ} 512 0
+length-blank = length-replicate {A = ℕ} mostCables 0
 
-pub filled-blank : (f : ℕ → ℕ) → Filled f 0 0 blank (replicate 512 0)
+pub filled-blank : (f : ℕ → ℕ) → Filled f 0 0 blank (replicate mostCables 0)
 unfolding blank
-filled-blank f = filled-none f 0 (replicate 512 0)
+filled-blank f = filled-none f 0 (replicate mostCables 0)
 
 -- as far as a list goes, an array that is filled from it is the list
-filled-list : (xs : List ℕ) {i m : ℕ} {l : List ℕ} → length xs ≡ m → m ≤ i → m ≤ 512 → Filled (λ j. getD xs j 0) 0 i blank l → take m l ≡ xs
+filled-list : (xs : List ℕ) {i m : ℕ} {l : List ℕ} → length xs ≡ m → m ≤ i → m ≤ mostCables → Filled (λ j. getD xs j 0) 0 i blank l → take m l ≡ xs
 filled-list xs {i} {m} {l} e h b F =
     ext-getD 0 (take m l) xs (long ∙ sym e) (λ j k. getD-take m l j 0 (omega (arith, long)) ∙ F .done j (omega (arith, long)))
   where
@@ -83,7 +80,7 @@ same-graph : {n : ℕ} {lowers uppers : List ℕ} (g : StGraph) → n ≡ g .par
     → _≡_ {A = StGraph} (record { parts = n; lowers = lowers; uppers = uppers }) g
 same-graph g a b c = rw (a, b, c) refl
 
-pub lines-ranked : (list : List ℕ) → verdict10 list ≡ passed → {n m i : ℕ} {lowers uppers : List ℕ} → n ≡ stationOf list .parts → m ≡ length (stationOf list .cables)
+pub lines-ranked : (list : List ℕ) → Clear allChecks list → {n m i : ℕ} {lowers uppers : List ℕ} → n ≡ stationOf list .parts → m ≡ length (stationOf list .cables)
     → m ≤ i
     → Filled (lower (graphOf (stationOf list))) 0 i blank lowers → Filled (upper (graphOf (stationOf list))) 0 i blank uppers
     → _≡_ {A = StGraph} (record { parts = n; lowers = take m lowers; uppers = take m uppers }) (graphOf (stationOf list))
@@ -95,5 +92,5 @@ lines-ranked list pass {n} {m} en em h L U =
     size : length (graphOf (stationOf list) .lowers) ≡ m
     size = graph-size (stationOf list) ∙ sym em
 
-    most : m ≤ 512
-    most = omega (arith, em, cables-most list pass)
+    most : m ≤ mostCables
+    most = omega (arith, em, lines-most list pass)

@@ -1,44 +1,41 @@
 -- A list that passes checks 1 to 10: each check, the condition of the order theorem, and the order theorem for lists. Assumes nothing.
 use Prim.Native.Nat.{ℕ, _≤_}
-use native.Mathlib.Omega.{arith}
-use mathlib.Core.Path.{_≡_}
-use mathlib.Core.List.{List}
+use mathlib.Core.Path.{_≡_, refl}
+use mathlib.Core.List.{List, List·Memᴰ·head, List·Memᴰ·tail}
 use lib.ListN.{length}
 use Rattle.lists.specs.declared.Found.the-variants.{Nothing}
+use Rattle.words.specs.Limits.{mostCables}
 use Rattle.station.specs.Station.{stationOf}
-use Rattle.station.specs.Checks.{Verdict, passed, orElse}
-use Rattle.station.proofs.Passed.{Clear, Passed, Wired, checked-passed, orElse-passed, passed-words, wired}
+use Rattle.station.specs.Checks.{Clear, listChecks}
+use Rattle.station.specs.Code.{Wired}
+use Rattle.station.proofs.FirstRefusal.{clear-each, clear-prefix, clear-rest}
+use Rattle.station.proofs.Passed.{wired, cables-most}
 use Rattle.order.specs.Reach.{check9, check10}
-use Rattle.order.specs.Verdict.{verdict10}
+use Rattle.order.specs.Checks.{stationChecks, allChecks}
 use Rattle.order.specs.Order.{order}
 use Rattle.order.specs.StOrder.{StOrdering, Smallest}
 use Rattle.order.specs.Graph.{Ranked}
-use Rattle.order.specs.Ends.{noCable, graphOf}
-use Rattle.order.proofs.Weak.{Orderable, weak-of-check10}
+use Rattle.order.specs.Ends.{graphOf}
+use Rattle.order.proofs.Bipolar.{Orderable, bipolar-of-check10}
 use Rattle.order.proofs.StOrder.{order-ordering, order-smallest}
 use Rattle.order.proofs.Ranks.{order-ranked}
 
--- none of checks 1 to 10 applies
-pub record Clear10 (list : List ℕ) : Type 0 where
-  pub clear8 : Clear list
-  pub clear9 : check9 (stationOf list) ≡ Nothing
-  pub clear10 : check10 (stationOf list) ≡ Nothing
+-- each of checks 9 and 10 finds nothing
+pub clear-9 : (list : List ℕ) → Clear allChecks list → check9 (stationOf list) ≡ Nothing
+unfolding allChecks stationChecks
+clear-9 list h = clear-each list stationChecks (clear-rest list listChecks stationChecks h) (List·Memᴰ·head refl)
 
-pub verdict10-passed : (list : List ℕ) → verdict10 list ≡ passed → Clear10 list
-unfolding verdict10
-verdict10-passed list e =
-    let v10 : Verdict = orElse 10 (check10 (stationOf list)) passed in
-    let v9 : Verdict = orElse 9 (check9 (stationOf list)) v10 in
-    let h : Clear list × (v9 ≡ passed) = checked-passed list v9 e in
-    let h9 : (check9 (stationOf list) ≡ Nothing) × (v10 ≡ passed) = orElse-passed 9 (check9 (stationOf list)) v10 (h .1) in
-    record { clear8 = h .0; clear9 = h9 .0; clear10 = orElse-passed 10 (check10 (stationOf list)) passed (h9 .1) .0 }
+pub clear-10 : (list : List ℕ) → Clear allChecks list → check10 (stationOf list) ≡ Nothing
+unfolding allChecks stationChecks
+clear-10 list h = clear-each list stationChecks (clear-rest list listChecks stationChecks h) (List·Memᴰ·tail (List·Memᴰ·head refl))
 
-module _ (list : List ℕ) (pass : verdict10 list ≡ passed) where
-  pub list-passed : Passed list
-  list-passed = passed-words list (verdict10-passed list pass .clear8)
+pub clear-8 : (list : List ℕ) → Clear allChecks list → Clear listChecks list
+unfolding allChecks
+clear-8 list h = clear-prefix list listChecks stationChecks h
 
+module _ (list : List ℕ) (pass : Clear allChecks list) where
   pub list-wired : Wired (stationOf list)
-  list-wired = wired list list-passed
+  list-wired = wired list (clear-8 list pass)
 
   pub list-orderable : Orderable (stationOf list)
   list-orderable =
@@ -46,8 +43,8 @@ module _ (list : List ℕ) (pass : verdict10 list ≡ passed) where
         source = list-wired .source;
         analyser = list-wired .analyser;
         apart = list-wired .apart;
-        within = λ i l. list-wired .within i noCable l;
-        weak = weak-of-check10 (stationOf list) (list-wired .source) (list-wired .analyser) (list-wired .apart) (verdict10-passed list pass .clear10);
+        within = λ i l. (list-wired .one i, list-wired .other i);
+        bipolar = bipolar-of-check10 (stationOf list) (list-wired .source) (list-wired .analyser) (list-wired .apart) (clear-10 list pass);
       }
 
   -- 'the result is the st-ordering from s to t'
@@ -62,6 +59,5 @@ module _ (list : List ℕ) (pass : verdict10 list ≡ passed) where
   pub list-ranked : Ranked (graphOf (stationOf list))
   list-ranked = order-ranked (stationOf list) list-orderable list-wired
 
-  -- four cables at each of at most 256 parts
-  pub cables-most : length (stationOf list .cables) ≤ 512
-  cables-most = omega (arith, list-wired .few, list-wired .most)
+  pub lines-most : length (stationOf list .cables) ≤ mostCables
+  lines-most = cables-most (stationOf list) list-wired

@@ -10,15 +10,16 @@ use lib.ListN.{length, getD, take, drop, set, replicate, length-map, length-set,
 use lib.Seq.{length-take-le, drop-cons, getD-take, ext-getD}
 use lib.Dec.{eqb}
 use borrow.Author.Tests.{eq-eqb, ne-eqb}
+use Rattle.words.specs.Limits.{mostParts}
 use Rattle.lists.specs.Select.{indexOf}
 use Rattle.lists.proofs.Kept.{map-set-same, map-set-other}
 use Rattle.words.specs.declared.Part.{Part}
 use Rattle.words.specs.declared.Rank.{Rank}
 use Rattle.order.specs.declared.Ranking.{Ranking}
 use Rattle.station.specs.Station.{stationOf}
-use Rattle.station.specs.Checks.{passed}
+use Rattle.station.specs.Checks.{Clear}
 use Rattle.order.specs.Order.{order, rankIn}
-use Rattle.order.specs.Verdict.{verdict10}
+use Rattle.order.specs.Checks.{allChecks}
 use Rattle.order.specs.Ranking.{partNumbers, rankNumbers, BothWays, RankingOf}
 use Rattle.order.proofs.Ranks.{rank-below}
 use Rattle.order.proofs.Passed.{list-orderable, list-ordering}
@@ -33,18 +34,18 @@ rank-cons p x xs = go (ℕ-discrete p x)
 
 -- The arrays while they are filled: right from rank k on.
 pub record Filling (parts : List ℕ) (n : ℕ) (rank : List Rank) (part : List Part) (k : ℕ) : Type 0 where
-  pub ranks : length rank ≡ 256
-  pub places : length part ≡ 256
+  pub ranks : length rank ≡ mostParts
+  pub places : length part ≡ mostParts
   pub down : k ≤ n
   pub by-rank : (j : ℕ) → k ≤ j → j < n → getD (partNumbers part) j 0 ≡ getD parts j 0
   pub by-part : (p : ℕ) → rankIn (drop k (take n parts)) p < length (drop k (take n parts)) → getD (rankNumbers rank) p 0 ≡ k + rankIn (drop k (take n parts)) p
 
-module _ (parts : List ℕ) (n : ℕ) (h : n ≤ 256) (len : length parts ≡ 256) (below : (k : ℕ) → getD parts k 0 < 256) where
-  pub filling-start : (rank : Rank) (part : Part) → Filling parts n (replicate 256 rank) (replicate 256 part) n
+module _ (parts : List ℕ) (n : ℕ) (h : n ≤ mostParts) (len : length parts ≡ mostParts) (below : (k : ℕ) → getD parts k 0 < mostParts) where
+  pub filling-start : (rank : Rank) (part : Part) → Filling parts n (replicate mostParts rank) (replicate mostParts part) n
   filling-start rank part =
       record {
-        ranks = length-replicate 256 rank;
-        places = length-replicate 256 part;
+        ranks = length-replicate mostParts rank;
+        places = length-replicate mostParts part;
         down = omega arith;
         by-rank = λ j a b. absurd (omega arith);
         by-part = λ p l. absurd (omega (arith, length-drop n (take n parts), length-take-le n parts (omega arith)));
@@ -102,7 +103,7 @@ module _ (parts : List ℕ) (n : ℕ) (h : n ≤ 256) (len : length parts ≡ 25
             (λ i l. getD-take (length (take n parts)) (partNumbers part) i 0 (omega (arith, long)) ∙ F .by-rank i (omega (arith, e)) (omega (arith, count, long)) ∙ sym (getD-take n parts i 0 (omega (arith, count, long))))
 
 -- of a list that passes checks 1 to 10, whose order has every part
-pub ranking-done : (list : List ℕ) → verdict10 list ≡ passed → {n : ℕ} (parts : List ℕ) {r : Ranking} → n ≡ stationOf list .parts
+pub ranking-done : (list : List ℕ) → Clear allChecks list → {n : ℕ} (parts : List ℕ) {r : Ranking} → n ≡ stationOf list .parts
     → take (stationOf list .parts) parts ≡ order (stationOf list) → BothWays (take n parts) r → RankingOf (stationOf list) r
 ranking-done list pass {n} parts {r} e o both =
     record {

@@ -13,15 +13,15 @@ use Rattle.lists.proofs.Select.{getD-map, length-filter, indexOf-below, getD-in
 use Rattle.lists.proofs.Bools.{or-right}
 use Rattle.lists.proofs.Sums.{count-none}
 use Rattle.lists.proofs.Tally.{count-places, count-two}
-use Rattle.station.specs.Station.{Cable, Station, joins, degree}
-use Rattle.station.proofs.Passed.{Wired}
+use Rattle.station.specs.Station.{Cable, Station, joins, degree, noCable}
+use Rattle.station.specs.Code.{Wired}
 use Rattle.order.specs.Reach.{Joined}
 use Rattle.order.specs.Order.{order, rankIn}
 use Rattle.order.specs.StOrder.{StOrdering}
 use Rattle.order.specs.Graph.{StGraph, size, lower, upper, linesAt, Ranked}
-use Rattle.order.specs.Ends.{noCable, lowerRank, upperRank, rankedBy, graphOf}
+use Rattle.order.specs.Ends.{lowerRank, upperRank, rankedBy, graphOf}
 use Rattle.order.proofs.Joins.{cableAt, Between, Lined, joined-line, joined-sym}
-use Rattle.order.proofs.Weak.{Orderable}
+use Rattle.order.proofs.Bipolar.{Orderable}
 use Rattle.order.proofs.StOrder.{order-ordering, order-mem, order-distinct}
 
 -- The cables in ranks, by line
@@ -125,7 +125,7 @@ module _ (st : Station) (H : Orderable st) where
 
     -- the ranks of a cable's two parts differ
     ranks-apart : (i : ℕ) → i < length (st .cables) → rankIn (order st) (cableAt (st .cables) i .one) ≡ rankIn (order st) (cableAt (st .cables) i .other) → ⊥
-    ranks-apart i l e = W .loopless i noCable l (rank-one (cableAt (st .cables) i .one) (cableAt (st .cables) i .other) (H .within i l .0) (H .within i l .1) e)
+    ranks-apart i l e = W .loopless i l (rank-one (cableAt (st .cables) i .one) (cableAt (st .cables) i .other) (H .within i l .0) (H .within i l .1) e)
 
     rises : (i : ℕ) → i < size g → lower g i < upper g i
     rises i l =
@@ -222,7 +222,7 @@ module _ (st : Station) (H : Orderable st) where
               length-filter (λ i. eqb (upper g i) k) (range (length (st .cables))),
               count-two (λ i. eqb (lower g i) k) (λ i. eqb (upper g i) k) (λ i. joins (getD (order st) k 0) (cableAt (st .cables) i)) (length (st .cables)) (one-end k l),
               by-line (getD (order st) k 0),
-              W .four (getD (order st) k 0) (O .inside k l),
+              W .degrees (getD (order st) k 0),
             ))
         go (no n) =
             omega (

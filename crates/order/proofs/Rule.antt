@@ -11,7 +11,7 @@ use Rattle.lists.proofs.Select.{range-e, range-i}
 use Rattle.lists.proofs.Sets.{without-e, without-i, length-without, length-only}
 use Rattle.station.specs.Station.{Cable, Station}
 use Rattle.order.specs.Order.{candidate, firstOr, extend, order}
-use Rattle.order.proofs.Weak.{Orderable}
+use Rattle.order.proofs.Bipolar.{Orderable}
 use Rattle.order.proofs.Candidates.{Candidate, Rest, rest-start, rest-step}
 use Rattle.order.proofs.Completion.{other-than, chosen, chosen-candidate, chosen-least}
 use Rattle.order.proofs.StOrder.{others, length-others, others-e, others-i}

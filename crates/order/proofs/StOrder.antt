@@ -15,7 +15,7 @@ use Rattle.order.specs.Reach.{Joined}
 use Rattle.order.specs.Order.{extend, order}
 use Rattle.order.specs.StOrder.{StOrdering, Before, Smallest}
 use Rattle.order.proofs.Joins.{joined-within}
-use Rattle.order.proofs.Weak.{Orderable}
+use Rattle.order.proofs.Bipolar.{Orderable}
 use Rattle.order.proofs.Candidates.{Candidate, Rest, rest-start, rest-step}
 use Rattle.order.proofs.Completion.{Completes, ended, ranked, completes-i, completes-e, completes-distinct, completes-length, completes-candidate, completes-last, completes-before, completes-after, chosen, chosen-least, extend-last, extend-completes}
 

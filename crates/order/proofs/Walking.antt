@@ -5,34 +5,27 @@ use mathlib.Core.Path.{_≡_, refl, sym, ap, _∙_, subst}
 use mathlib.Core.Logic.{_⊎_, inl, inr}
 use mathlib.Core.Bool.{Bool, true, false, cond}
 use mathlib.Core.List.{List, [], _∷_, _++_, List·Memᴰ, List·Memᴰ·head, List·Memᴰ·tail, List·Memᴰ·append-cases, List·Memᴰ·eq-of-singleton}
-use lib.ListN.{length, getD, drop, set, length-set}
-use lib.Seq.{getD-drop}
-use Rattle.lists.proofs.Kept.{mem-below, mem-take}
+use lib.ListN.{length, getD, set, length-set}
+use Rattle.words.specs.Limits.{stackPlaces}
 use Rattle.lists.specs.Select.{member, without}
 use Rattle.station.specs.Station.{stationOf}
 use Rattle.order.specs.Reach.{neighbours, endsAt, unreached}
-use Rattle.order.specs.Tables.{Drawable, Adjacent, row, flagged, fromTop, Stepped}
+use Rattle.order.specs.Tables.{Drawable, Adjacent, flagged, fromTop, Steppable, Stepped}
+use Rattle.order.proofs.AdjacencyTable.{joined-inside}
 use Rattle.order.proofs.Flags.{member-flagged, distinct-flagged, length-flagged, without-flagged}
 use Rattle.order.proofs.Walks.{ends-few, walked, walked-none, walked-start, walked-next, steps-next, length-fromTop, fromTop-one, fromTop-pop}
 
--- Every number of a table's row stands in the table.
-
-pub row-below : {x : ℕ} (next degree : List ℕ) (n p : ℕ) → ((i : ℕ) → getD next i 0 < n) → List·Memᴰ x (row next degree p) → x < n
-unfolding row
-row-below next degree n p h m =
-    mem-below n (drop (4 * p) next) (λ i. rw (getD-drop (4 * p) next i 0) (h (4 * p + i))) (mem-take (getD degree p 0) (drop (4 * p) next) m)
-
 -- The walk from part p among the flags of set, with left and a stack of height top still to go.
 pub record Walking (list : List ℕ) (set : List Bool) (p : ℕ) (left : List Bool) (stack : List ℕ) (top : ℕ) : Type 0 where
-  pub places : length stack ≡ 1280
+  pub places : length stack ≡ stackPlaces
   pub room : endsAt (stationOf list .cables) (flagged (stationOf list .parts) left) + top ≤ 1025
   pub inside : (q : ℕ) → List·Memᴰ q (fromTop stack top) → q < stationOf list .parts
   pub same : walked (stationOf list .cables) (fromTop stack top) (flagged (stationOf list .parts) left) ≡ unreached (stationOf list .cables) (flagged (stationOf list .parts) set) p
 
-module _ (list : List ℕ) where
-  pub walking-start : (flags : List Bool) (p : ℕ) (stack : List ℕ) → Drawable list → p < stationOf list .parts → length stack ≡ 1280
+module _ {list : List ℕ} where
+  pub walking-start : {p : ℕ} (flags : List Bool) (stack : List ℕ) → Drawable list → p < stationOf list .parts → length stack ≡ stackPlaces
       → Walking list flags p flags (set stack 0 p) 1
-  walking-start flags p stack D h s =
+  walking-start {p} flags stack D h s =
       let top : fromTop (set stack 0 p) 1 ≡ p ∷ [] = fromTop-one stack p (omega arith) in
       record {
         places = length-set stack 0 p ∙ s;
@@ -42,8 +35,18 @@ module _ (list : List ℕ) where
       }
 
   module _ {set₀ left : List Bool} {p top : ℕ} {stack : List ℕ} (W : Walking list set₀ p left stack top) where
-    pub walking-top : 0 < top → getD stack (top - 1) 0 < stationOf list .parts
+    walking-top : 0 < top → getD stack (top - 1) 0 < stationOf list .parts
     walking-top h = W .inside (getD stack (top - 1) 0) (rw (fromTop-pop stack top h) (List·Memᴰ·head refl))
+
+    pub walking-fits : {table : List ℕ} → Adjacent list table → 0 < top → Steppable table stack top
+    walking-fits A h =
+        record {
+          formed = A .formed;
+          places = W .places;
+          some = h;
+          room = omega (arith, W .room);
+          part = omega (arith, walking-top h, A .drawable .most);
+        }
 
     pub walking-end : top ≤ 0 → flagged (stationOf list .parts) left ≡ unreached (stationOf list .cables) (flagged (stationOf list .parts) set₀) p
     unfolding fromTop
@@ -51,7 +54,7 @@ module _ (list : List ℕ) where
         let e : top ≡ 0 = omega arith in
         sym (walked-none (stationOf list .cables) (flagged (stationOf list .parts) left)) ∙ rw e at (W .same)
 
-    module _ {next degree : List ℕ} (A : Adjacent list next degree) (h : 0 < top) {left′ : List Bool} {stack′ : List ℕ} {top′ : ℕ} (S : Stepped next degree left stack top left′ stack′ top′) where
+    module _ {table : List ℕ} (A : Adjacent list table) (h : 0 < top) {left′ : List Bool} {stack′ : List ℕ} {top′ : ℕ} (S : Stepped table left stack top left′ stack′ top′) where
       -- the part on top, what lies under it, and whether it is left
       q : ℕ
       q = getD stack (top - 1) 0
@@ -68,7 +71,7 @@ module _ (list : List ℕ) where
 
       todo-next : fromTop stack′ top′ ≡ cond (member q among) (neighbours (stationOf list .cables) q ++ todo) todo
       unfolding q todo
-      todo-next = rw (fresh, ← A .rows q) (S .content)
+      todo-next = rw (fresh, ← A .by-line q) (S .content)
 
       left-next : flagged (stationOf list .parts) left′ ≡ cond (member q among) (without q among) among
       unfolding q among
@@ -78,7 +81,7 @@ module _ (list : List ℕ) where
           go true = sym (without-flagged (stationOf list .parts) left q)
           go false = refl
 
-      pub walking-less : endsAt (stationOf list .cables) (flagged (stationOf list .parts) left′) + top′ + 1 ≡ endsAt (stationOf list .cables) (flagged (stationOf list .parts) left) + top
+      pub walking-less : endsAt (stationOf list .cables) (flagged (stationOf list .parts) left′) + top′ < endsAt (stationOf list .cables) (flagged (stationOf list .parts) left) + top
       unfolding todo among
       walking-less =
           let ends : _ = ap (endsAt (stationOf list .cables)) left-next in
@@ -93,7 +96,7 @@ module _ (list : List ℕ) where
       inside-next x m = go (member q among) (subst (List·Memᴰ x) todo-next m)
         where
           own : List·Memᴰ x (neighbours (stationOf list .cables) q) ⊎ List·Memᴰ x todo → x < stationOf list .parts
-          own (inl k) = row-below next degree (stationOf list .parts) q (A .inside) (subst (List·Memᴰ x) (sym (A .rows q)) k)
+          own (inl k) = joined-inside (A .drawable) q k
           own (inr k) = under x k
 
           go : (b : Bool) → List·Memᴰ x (cond b (neighbours (stationOf list .cables) q ++ todo) todo) → x < stationOf list .parts

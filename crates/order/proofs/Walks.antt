@@ -11,13 +11,15 @@ use lib.ListN.{length, getD, take, drop, set, length-append, length-drop, length
 use lib.Seq.{take-suc, getD-take, getD-drop, getD-set-same, getD-set-other, length-take-le, take-all}
 use lib.Dec.{eqb}
 use borrow.Author.Tests.{eq-eqb, ne-eqb}
+use Rattle.words.specs.Limits.{mostParts, neighbourPlaces, stackPlaces}
 use Rattle.lists.specs.Select.{member, consIf, filter, without}
 use Rattle.lists.proofs.Select.{Distinct}
 use Rattle.lists.proofs.Filters.{without-absent}
 use Rattle.lists.proofs.Sets.{member-e}
 use Rattle.station.specs.Station.{Cable}
 use Rattle.order.specs.Reach.{neighbours, endsAt, walk, unreached}
-use Rattle.order.specs.Tables.{row, Room, fromTop, Pushed, Stepped}
+use Rattle.order.specs.Tables.{neighboursIn, TableFits, fromTop, Pushed, Stepped}
+use Rattle.order.proofs.AdjacencyTable.{neighbours-length, neighbours-at}
 
 -- The cable ends of a set
 
@@ -97,66 +99,66 @@ unfolding fromTop
 fromTop-pop stack zero h = absurd (omega arith)
 fromTop-pop stack (suc k) h = let e : suc k - 1 ≡ k = omega arith in rw e refl
 
--- A part's row by place
-
-module _ (next degree : List ℕ) (p : ℕ) (R : Room next degree) (h : p < 256) where
-  pub row-length : length (row next degree p) ≡ getD degree p 0
-  unfolding row
-  row-length = length-take-le (getD degree p 0) (drop (4 * p) next) (omega (arith, length-drop (4 * p) next, R .few p, R .places))
-
-  pub row-at : (j : ℕ) → j < getD degree p 0 → getD (row next degree p) j 0 ≡ getD next (4 * p + j) 0
-  unfolding row
-  row-at j g = getD-take (getD degree p 0) (drop (4 * p) next) j 0 g ∙ getD-drop (4 * p) next j 0
-
-  -- from the row's last number down to its first
-  push-next : (stack : List ℕ) (at j : ℕ) → at < length stack → 0 < j → j ≤ getD degree p 0
-      → take (j - 1) (row next degree p) ++ fromTop (set stack at (getD next (4 * p + (j - 1)) 0)) (at + 1) ≡ take j (row next degree p) ++ fromTop stack at
-  push-next stack at zero l g f = absurd (omega arith)
-  push-next stack at (suc j) l g f =
-      let e : suc j - 1 ≡ j = omega arith in
-      rw (e, fromTop-push stack at (getD next (4 * p + j) 0) l, take-suc (row next degree p) j 0 (omega (arith, row-length)), row-at j (omega arith), append-assoc) refl
-
--- A row while it is pushed: j numbers, in front of the stack, are the whole row in front of the stack at the start.
-pub record Pushing (next degree : List ℕ) (p : ℕ) (stack₀ : List ℕ) (top : ℕ) (stack : List ℕ) (at j : ℕ) : Type 0 where
+-- A part's neighbours while they are pushed, from the last down to the first: the first j of them, in front of the stack, are all of them in front of the
+-- stack at the start.
+pub record Pushing (table : List ℕ) (p : ℕ) (stack₀ : List ℕ) (top : ℕ) (stack : List ℕ) (at j : ℕ) : Type 0 where
+  pub formed : TableFits table
+  pub inside : p < mostParts
+  pub few : getD table (neighbourPlaces + p) 0 ≤ 4
+  pub room : top + 4 ≤ length stack₀
   pub places : length stack ≡ length stack₀
-  pub few : getD degree p 0 ≤ 4
-  pub rest : j ≤ getD degree p 0
-  pub height : at + j ≡ top + getD degree p 0
-  pub content : take j (row next degree p) ++ fromTop stack at ≡ row next degree p ++ fromTop stack₀ top
+  pub rest : j ≤ getD table (neighbourPlaces + p) 0
+  pub height : at + j ≡ top + getD table (neighbourPlaces + p) 0
+  pub content : take j (neighboursIn table p) ++ fromTop stack at ≡ neighboursIn table p ++ fromTop stack₀ top
 
-module _ {next degree : List ℕ} {p : ℕ} (R : Room next degree) (h : p < 256) where
-  pub pushing-start : (stack : List ℕ) (top : ℕ) → Pushing next degree p stack top stack top (getD degree p 0)
-  pushing-start stack top =
-      record {
-        places = refl;
-        few = R .few p;
-        rest = omega arith;
-        height = refl;
-        content = rw (take-all (getD degree p 0) (row next degree p) (omega (arith, row-length next degree p R h))) refl;
-      }
+pub pushing-start : {table stack : List ℕ} {p top : ℕ} → TableFits table → p < mostParts → length stack ≡ stackPlaces → top + 4 ≤ stackPlaces
+    → Pushing table p stack top stack top (getD table (neighbourPlaces + p) 0)
+pushing-start {table} {stack} {p} F h l r =
+    record {
+      formed = F;
+      inside = h;
+      few = F .few p;
+      room = omega arith;
+      places = refl;
+      rest = omega arith;
+      height = refl;
+      content = rw (take-all (getD table (neighbourPlaces + p) 0) (neighboursIn table p) (omega (arith, neighbours-length F h))) refl;
+    }
 
-  pub pushing-next : {stack₀ stack : List ℕ} {top at j : ℕ} → Pushing next degree p stack₀ top stack at j → 0 < j → at < length stack
-      → Pushing next degree p stack₀ top (set stack at (getD next (4 * p + (j - 1)) 0)) (at + 1) (j - 1)
-  pushing-next {stack₀} {stack} {top} {at} {j} P g l =
+module _ {table stack₀ stack : List ℕ} {p top at : ℕ} where
+  pub pushing-next : (j : ℕ) → Pushing table p stack₀ top stack at j → 0 < j
+      → Pushing table p stack₀ top (set stack at (getD table (4 * p + (j - 1)) 0)) (at + 1) (j - 1)
+  pushing-next zero P g = absurd (omega arith)
+  pushing-next (suc j) P g =
       record {
-        places = length-set stack at _ ∙ P .places;
+        formed = P .formed;
+        inside = P .inside;
         few = P .few;
+        room = P .room;
+        places = length-set stack at _ ∙ P .places;
         rest = omega (arith, P .rest);
         height = omega (arith, P .height);
-        content = push-next next degree p R h stack at j l g (P .rest) ∙ P .content;
+        content =
+            let e : suc j - 1 ≡ j = omega arith in
+            rw (
+              e,
+              fromTop-push stack at (getD table (4 * p + j) 0) (omega (arith, P .places, P .room, P .height, P .few, P .rest)),
+              ← neighbours-at (P .formed) (P .inside) j (omega (arith, P .rest)),
+              ← append-assoc (take j (neighboursIn table p)) (getD (neighboursIn table p) j 0 ∷ []) (fromTop stack at),
+              ← take-suc (neighboursIn table p) j 0 (omega (arith, P .rest, neighbours-length (P .formed) (P .inside))),
+            )
+            (P .content);
       }
 
-  pub pushing-end : {stack₀ stack : List ℕ} {top at j : ℕ} → Pushing next degree p stack₀ top stack at j → j ≤ 0 → Pushed (row next degree p) stack₀ top stack at
-  pushing-end {stack₀} {stack} {top} {at} {j} P g =
-      let e : j ≡ 0 = omega arith in
-      record { places = P .places; content = rw e at (P .content) }
+  pub pushing-end : {j : ℕ} → Pushing table p stack₀ top stack at j → j ≤ 0 → Pushed (neighboursIn table p) stack₀ top stack at
+  pushing-end {j} P g = let e : j ≡ 0 = omega arith in record { places = P .places; content = rw e at (P .content) }
 
 -- A step, by whether the part on top of the stack is left
 
-module _ (next degree : List ℕ) (left : List Bool) (stack : List ℕ) (top : ℕ) where
-  pub stepped-left : {stack′ : List ℕ} {top′ : ℕ} → getD left (getD stack (top - 1) 0) false ≡ true → Pushed (row next degree (getD stack (top - 1) 0)) stack (top - 1) stack′ top′
-      → Stepped next degree left stack top (set left (getD stack (top - 1) 0) false) stack′ top′
+module _ {table : List ℕ} {left : List Bool} {stack : List ℕ} {top : ℕ} where
+  pub stepped-left : {stack′ : List ℕ} {top′ : ℕ} → getD left (getD stack (top - 1) 0) false ≡ true → Pushed (neighboursIn table (getD stack (top - 1) 0)) stack (top - 1) stack′ top′
+      → Stepped table left stack top (set left (getD stack (top - 1) 0) false) stack′ top′
   stepped-left e P = record { places = P .places; content = rw e (P .content); flags = rw e refl }
 
-  pub stepped-gone : getD left (getD stack (top - 1) 0) false ≡ false → Stepped next degree left stack top left stack (top - 1)
+  pub stepped-gone : getD left (getD stack (top - 1) 0) false ≡ false → Stepped table left stack top left stack (top - 1)
   stepped-gone e = record { places = refl; content = rw e refl; flags = rw e refl }

@@ -7,9 +7,6 @@ use Rattle.station.specs.Station.{Cable, Station}
 use Rattle.order.specs.Order.{order, rankIn}
 use Rattle.order.specs.Graph.{StGraph}
 
-abbrev pub noCable : Cable
-noCable = record { one = 0; other = 0 }
-
 -- in an order of the parts: a cable's lower-ranked part, and its other part
 unfoldable pub lowerPart : List ℕ → Cable → ℕ
 lowerPart parts c = cond (leb (rankIn parts (c .one)) (rankIn parts (c .other))) (c .one) (c .other)

@@ -1,15 +1,16 @@
--- What the code keeps: each part's neighbours in a table, sets of parts as flags, a stack of parts. Assumes nothing.
+-- What the code keeps: the adjacency table, sets of parts as flags, a stack of parts, a separation witness beside each part. Assumes nothing.
 use Prim.Native.Nat.{ℕ, zero, suc, _+_, _*_, _-_, _<_, _≤_}
 use mathlib.Core.Path.{_≡_}
 use mathlib.Core.Bool.{Bool, false, cond, not, _&&_}
 use mathlib.Core.List.{List, [], _∷_, _++_, List·Memᴰ}
 use lib.ListN.{length, getD, take, drop, set}
 use lib.Dec.{eqb}
+use Rattle.words.specs.Limits.{adjacencyPlaces, mostParts, neighbourPlaces, stackPlaces}
 use Rattle.lists.specs.declared.Found.{Found}
 use Rattle.lists.specs.declared.Found.the-variants.{At}
 use Rattle.lists.specs.Search.{isFound}
 use Rattle.lists.specs.Select.{range, any, filter, without}
-use Rattle.station.specs.Station.{cableOf, stationOf}
+use Rattle.station.specs.Station.{stationOf, noCable}
 use Rattle.order.specs.Reach.{neighbours, Path, connected}
 use Rattle.order.specs.Order.{candidate, firstOr}
 
@@ -17,29 +18,45 @@ use Rattle.order.specs.Order.{candidate, firstOr}
 pub record Drawable (list : List ℕ) : Type 0 where
   pub words : 2 ≤ length list
   pub least : 3 ≤ stationOf list .parts
-  pub most : stationOf list .parts ≤ 256
+  pub most : stationOf list .parts ≤ mostParts
   pub source : stationOf list .source < stationOf list .parts
   pub analyser : stationOf list .analyser < stationOf list .parts
-  pub one : (i : ℕ) → getD (stationOf list .cables) i (cableOf 0) .one < stationOf list .parts
-  pub other : (i : ℕ) → getD (stationOf list .cables) i (cableOf 0) .other < stationOf list .parts
+  pub one : (i : ℕ) → getD (stationOf list .cables) i noCable .one < stationOf list .parts
+  pub other : (i : ℕ) → getD (stationOf list .cables) i noCable .other < stationOf list .parts
   pub few : (p : ℕ) → length (neighbours (stationOf list .cables) p) ≤ 4
 
--- part p's row of a table: as many numbers as its degree, from place 4 p on
-unfoldable pub row : List ℕ → List ℕ → ℕ → List ℕ
-row next degree p = take (getD degree p 0) (drop (4 * p) next)
+-- The adjacency table
 
--- a table with room for four neighbours of each of 256 parts
-pub record Room (next degree : List ℕ) : Type 0 where
-  pub places : length next ≡ 1024
-  pub rows : length degree ≡ 256
-  pub few : (p : ℕ) → getD degree p 0 ≤ 4
+-- part p's neighbours, from place 4 p on; as many as its degree, behind the neighbours of all parts
+unfoldable pub neighboursIn : List ℕ → ℕ → List ℕ
+neighboursIn table p = take (getD table (neighbourPlaces + p) 0) (drop (4 * p) table)
 
--- the table of a list's cables: a part's row has its neighbours by line
-pub record Adjacent (list next degree : List ℕ) : Type 0 where
+-- a table of all parts with at most four neighbours each
+pub record TableFits (table : List ℕ) : Type 0 where
+  pub places : length table ≡ adjacencyPlaces
+  pub few : (p : ℕ) → getD table (neighbourPlaces + p) 0 ≤ 4
+  pub inside : (i : ℕ) → getD table i 0 < mostParts
+
+-- the table of a list's cables: each part's neighbours by line
+pub record Adjacent (list table : List ℕ) : Type 0 where
   pub drawable : Drawable list
-  pub room : Room next degree
-  pub inside : (i : ℕ) → getD next i 0 < stationOf list .parts
-  pub rows : (p : ℕ) → row next degree p ≡ neighbours (stationOf list .cables) p
+  pub formed : TableFits table
+  pub by-line : (p : ℕ) → neighboursIn table p ≡ neighbours (stationOf list .cables) p
+
+-- part p has room for one more neighbour q
+pub record Appendable (table : List ℕ) (p q : ℕ) : Type 0 where
+  pub formed : TableFits table
+  pub part : p < mostParts
+  pub neighbour : q < mostParts
+  pub few : getD table (neighbourPlaces + p) 0 < 4
+
+-- q put behind part p's neighbours: those of the other parts stay
+pub record Appended (table table' : List ℕ) (p q : ℕ) : Type 0 where
+  pub formed : TableFits table'
+  pub own : neighboursIn table' p ≡ neighboursIn table p ++ (q ∷ [])
+  pub rest : (x : ℕ) → (x ≡ p → ⊥) → neighboursIn table' x ≡ neighboursIn table x
+
+-- Sets
 
 -- the parts whose flag is set, by rising number
 unfoldable pub flagged : ℕ → List Bool → List ℕ
@@ -49,55 +66,64 @@ flagged n flags = filter (λ p. getD flags p false) (range n)
 abbrev pub setOf : List ℕ → List Bool → List ℕ
 setOf list flags = flagged (stationOf list .parts) flags
 
+-- Walks
+
 -- the lowest k entries of a stack, from the top down
 unfoldable pub fromTop : List ℕ → ℕ → List ℕ
 fromTop stack zero = []
 fromTop stack (suc k) = getD stack k 0 ∷ fromTop stack k
-
--- q put behind part p's row: the other rows stay
-pub record Appended (next degree next' degree' : List ℕ) (p q : ℕ) : Type 0 where
-  pub room : Room next' degree'
-  pub inside : (n : ℕ) → q < n → ((i : ℕ) → getD next i 0 < n) → (i : ℕ) → getD next' i 0 < n
-  pub own : row next' degree' p ≡ row next degree p ++ (q ∷ [])
-  pub rest : (x : ℕ) → (x ≡ p → ⊥) → row next' degree' x ≡ row next degree x
 
 -- numbers put on a stack, the first on top
 pub record Pushed (new stack : List ℕ) (top : ℕ) (stack' : List ℕ) (top' : ℕ) : Type 0 where
   pub places : length stack' ≡ length stack
   pub content : fromTop stack' top' ≡ new ++ fromTop stack top
 
--- one step of a walk: the part on top of the stack is taken off; if it is left, it is taken out there, and its row is put on the stack
-pub record Stepped (next degree : List ℕ) (left : List Bool) (stack : List ℕ) (top : ℕ) (left' : List Bool) (stack' : List ℕ) (top' : ℕ) : Type 0 where
+-- a stack of height top that a walk can take a step with
+pub record Steppable (table stack : List ℕ) (top : ℕ) : Type 0 where
+  pub formed : TableFits table
+  pub places : length stack ≡ stackPlaces
+  pub some : 0 < top
+  pub room : top + 3 ≤ adjacencyPlaces
+  pub part : getD stack (top - 1) 0 < mostParts
+
+-- one step of a walk: the part on top of the stack is taken off; if it is left, it is taken out there, and its neighbours are put on the stack
+pub record Stepped (table : List ℕ) (left : List Bool) (stack : List ℕ) (top : ℕ) (left' : List Bool) (stack' : List ℕ) (top' : ℕ) : Type 0 where
   pub places : length stack' ≡ length stack
-  pub content : fromTop stack' top' ≡ cond (getD left (getD stack (top - 1) 0) false) (row next degree (getD stack (top - 1) 0) ++ fromTop stack (top - 1)) (fromTop stack (top - 1))
+  pub content : fromTop stack' top' ≡ cond (getD left (getD stack (top - 1) 0) false) (neighboursIn table (getD stack (top - 1) 0) ++ fromTop stack (top - 1)) (fromTop stack (top - 1))
   pub flags : left' ≡ cond (getD left (getD stack (top - 1) 0) false) (set left (getD stack (top - 1) 0) false) left
 
--- A part that has no path to t among the parts of a set other than v, or nothing where those are joined to each other.
-pub record CutOff (list : List ℕ) (set : List Bool) (v : ℕ) (found : Found) : Type 0 where
-  pub test : isFound found ≡ not (connected (stationOf list .cables) (without v (setOf list set)))
-  pub among : (q : ℕ) → found ≡ At q → List·Memᴰ q (without v (setOf list set))
-  pub apart : (q : ℕ) → found ≡ At q → Path (stationOf list .cables) (λ x. List·Memᴰ x (without v (setOf list set))) (stationOf list .analyser) q → ⊥
+-- A part of a set that has no path to t inside the set, or nothing where the set's parts are joined to each other.
+pub record CutOff (list among : List ℕ) (found : Found) : Type 0 where
+  pub test : isFound found ≡ not (connected (stationOf list .cables) among)
+  pub inside : (q : ℕ) → found ≡ At q → List·Memᴰ q among
+  pub apart : (q : ℕ) → found ≡ At q → Path (stationOf list .cables) (λ x. List·Memᴰ x among) (stationOf list .analyser) q → ⊥
 
--- q is another part than w, and has no path to t among the unranked parts other than w
-pub record Severed (list : List ℕ) (unranked : List Bool) (w q : ℕ) : Type 0 where
+-- Choices
+
+-- w separates q from t among the unranked parts: q is another part, and without w has no path to t
+pub record Separates (list : List ℕ) (unranked : List Bool) (w q : ℕ) : Type 0 where
   pub other : q ≡ w → ⊥
   pub apart : Path (stationOf list .cables) (λ x. List·Memᴰ x (without w (setOf list unranked))) (stationOf list .analyser) q → ⊥
 
--- what is noted beside the parts: as long as both are unranked, w severs the part noted beside it
-pub record Noted (list : List ℕ) (unranked : List Bool) (noted : List ℕ) : Type 0 where
-  pub places : length noted ≡ 256
-  pub inside : (w : ℕ) → getD noted w 0 < stationOf list .parts
-  pub severed : (w : ℕ) → List·Memᴰ w (setOf list unranked) → List·Memᴰ (getD noted w 0) (setOf list unranked)
-      → Severed list unranked w (getD noted w 0)
+-- beside each part a witness, which it separates from t as long as both are unranked
+pub record Witnesses (list : List ℕ) (unranked : List Bool) (witness : List ℕ) : Type 0 where
+  pub places : length witness ≡ mostParts
+  pub inside : (w : ℕ) → getD witness w 0 < stationOf list .parts
+  pub separated : (w : ℕ) → List·Memᴰ w (setOf list unranked) → List·Memᴰ (getD witness w 0) (setOf list unranked)
+      → Separates list unranked w (getD witness w 0)
 
 -- part w is joined to a ranked part
-unfoldable pub bordering : List ℕ → List ℕ → List Bool → ℕ → Bool
-bordering next degree unranked w = any (λ q. not (getD unranked q false)) (row next degree w)
+unfoldable pub bordering : List ℕ → List Bool → ℕ → Bool
+bordering table unranked w = any (λ q. not (getD unranked q false)) (neighboursIn table w)
 
--- the tests of a candidate that need no walk; q is the part noted beside w
-unfoldable pub worthWalk : List ℕ → List ℕ → List Bool → ℕ → ℕ → ℕ → Bool
-worthWalk next degree unranked w t q =
-    getD unranked w false && not (eqb w t) && not (getD unranked t false && getD unranked q false) && bordering next degree unranked w
+-- an unranked part w is known to separate its witness from t: both are unranked
+unfoldable pub knownSeparator : List ℕ → List Bool → List ℕ → ℕ → Bool
+knownSeparator list unranked witness w = getD unranked (stationOf list .analyser) false && getD unranked (getD witness w 0) false
+
+-- the tests of a candidate that need no walk
+unfoldable pub mayBeNext : List ℕ → List ℕ → List Bool → List ℕ → ℕ → Bool
+mayBeNext list table unranked witness w =
+    getD unranked w false && not (eqb w (stationOf list .analyser)) && not (knownSeparator list unranked witness w) && bordering table unranked w
 
 -- part w is unranked and a candidate
 unfoldable pub eligible : List ℕ → List Bool → ℕ → Bool

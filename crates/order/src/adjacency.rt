@@ -1,41 +1,40 @@
-// The neighbours of each part, at most four, in one table.
+// The adjacency table of a list's cables.
 use station::fields;
-ghost use Prim.Native.Nat.{_<_};
-ghost use lib.ListN.{getD};
-ghost use Rattle.order.specs.Tables.{Drawable, Room, Adjacent, Appended};
+use words::Part;
+use words::limits::ADJACENCY_PLACES;
+use words::limits::NEIGHBOUR_PLACES;
+ghost use Rattle.order.specs.Tables.{Drawable, Adjacent, Appendable, Appended};
 
-// Part p's neighbours by line, as many as its degree, stand in next from place 4 p on.
-pub struct Adjacency {
-    pub next: [u16; 1024],
-    pub degree: [u8; 256],
-}
+// Part p's neighbours by line, at most four, from place 4 p on, and how many they are at place DEGREES + p.
+pub type Table = [u16; ADJACENCY_PLACES];
+
+pub const DEGREES: usize = NEIGHBOUR_PLACES;
 
 // q put behind the neighbours of p.
-fn join(next: &mut [u16; 1024], degree: &mut [u8; 256], p: usize, q: u16)
-    requires { ⌜ Room (now next) (now degree) ⌝ }
-    requires { ⌜ (p < 256) × (getD (now degree) p 0 < 4) ⌝ }
-    ensures { λ r. ⌜ Appended (now (next .entry)) (now (degree .entry)) (now (next .exit)) (now (degree .exit)) p q ⌝ }
+fn join(table: &mut Table, p: Part, q: Part)
+    requires { ⌜ Appendable (now table) (p .0) (q .0) ⌝ }
+    ensures { λ r. ⌜ Appended (now (table .entry)) (now (table .exit)) (p .0) (q .0) ⌝ }
 {
-    let d = degree[p] as usize;
-    next[4 * p + d] = q;
-    degree[p] = (d + 1) as u8;
+    let i = p.0 as usize;
+    let d = table[DEGREES + i];
+    table[4 * i + d as usize] = q.0;
+    table[DEGREES + i] = d + 1;
 }
 
 // The table of a list's cables.
-pub fn table_of(list: &[u32]) -> Adjacency
+pub fn table_of(list: &[u32]) -> Table
     requires { ⌜ Drawable (now list) ⌝ }
-    ensures { λ r. ⌜ Adjacent (now (list .entry)) (r .next) (r .degree) ⌝ }
+    ensures { λ r. ⌜ Adjacent (now (list .entry)) r ⌝ }
 {
     let m = fields::cable_count(list);
-    let mut next = [0u16; 1024];
-    let mut degree = [0u8; 256];
+    let mut table = [0u16; ADJACENCY_PLACES];
     let mut line = 0;
     while line < m {
-        let a = fields::one_part(list, line).0;
-        let b = fields::other_part(list, line).0;
-        join(&mut next, &mut degree, a as usize, b);
-        join(&mut next, &mut degree, b as usize, a);
+        let a = fields::one_part(list, line);
+        let b = fields::other_part(list, line);
+        join(&mut table, a, b);
+        join(&mut table, b, a);
         line += 1;
     }
-    Adjacency { next, degree }
+    table
 }

@@ -1,30 +1,34 @@
-// The part that gets each next rank (document 01, 'The order of parts'). Where a part is no candidate because it cuts another off from t, that one is noted
-// beside it: fewer unranked parts make no new path, so that it needs no other walk until the noted part is ranked.
+// The part that gets each next rank (document 01, 'The order of parts'). Where a part is no candidate because it separates another one from t, that one is
+// its witness: fewer unranked parts make no new path, so that it needs no other walk until its witness is ranked.
 use crate::Ranking;
+use crate::adjacency::DEGREES;
+use crate::adjacency::Table;
 use crate::walk;
 use lists::Found;
 use station::fields;
 use words::Part;
 use words::Rank;
+use words::limits::MOST_PARTS;
 ghost use mathlib.Core.Path.{_≡_};
-ghost use mathlib.Core.Bool.{false, _&&_};
 ghost use Prim.Native.Nat.{ℕ, _<_, _≤_};
 ghost use lib.ListN.{length, getD, take};
+ghost use Rattle.words.specs.Limits.{mostParts};
 ghost use Rattle.station.specs.Station.{stationOf};
 ghost use Rattle.order.specs.Order.{order};
 ghost use Rattle.order.specs.Ranking.{BothWays};
-ghost use Rattle.order.specs.Tables.{Room, Adjacent, Noted, bordering, worthWalk, eligible, chosenPart};
+ghost use Rattle.order.specs.Tables.{Drawable, TableFits, Adjacent, Witnesses, bordering, knownSeparator, mayBeNext, eligible, chosenPart};
 
 // Part w is joined to a ranked part.
-fn borders(next: &[u16; 1024], degree: &[u8; 256], unranked: &[bool; 256], w: usize) -> bool
-    requires { ⌜ Room (now next) (now degree) ⌝ }
-    requires { ⌜ (w < 256) × ((i : ℕ) → getD (now next) i 0 < 256) ⌝ }
-    ensures { λ r. ⌜ r ≡ bordering (now (next .entry)) (now (degree .entry)) (now (unranked .entry)) w ⌝ }
+fn borders(table: &Table, unranked: &[bool; MOST_PARTS], w: Part) -> bool
+    requires { ⌜ TableFits (now table) ⌝ }
+    requires { ⌜ w .0 < mostParts ⌝ }
+    ensures { λ r. ⌜ r ≡ bordering (now (table .entry)) (now (unranked .entry)) (w .0) ⌝ }
 {
-    let d = degree[w] as usize;
+    let i = w.0 as usize;
+    let d = table[DEGREES + i] as usize;
     let mut j = 0;
     while j < d {
-        let q = next[4 * w + j] as usize;
+        let q = table[4 * i + j] as usize;
         if !unranked[q] {
             return true;
         }
@@ -33,119 +37,124 @@ fn borders(next: &[u16; 1024], degree: &[u8; 256], unranked: &[bool; 256], w: us
     false
 }
 
-// Two parts are unranked.
-fn both(unranked: &[bool; 256], p: usize, q: usize) -> bool
-    requires { ⌜ (p < 256) × (q < 256) ⌝ }
-    ensures { λ r. ⌜ r ≡ (getD (now (unranked .entry)) p false && getD (now (unranked .entry)) q false) ⌝ }
-{
-    unranked[p] && unranked[q]
-}
-
-// The tests of a candidate that need no walk: part w is unranked, is not t, does not still cut off the part q noted beside it, and is joined to a ranked part.
-fn is_worth_a_walk(
-    next: &[u16; 1024],
-    degree: &[u8; 256],
-    unranked: &[bool; 256],
-    w: usize,
-    t: usize,
-    q: usize,
-) -> bool
-    requires { ⌜ Room (now next) (now degree) ⌝ }
-    requires { ⌜ (w < 256) × (t < 256) × (q < 256) × ((i : ℕ) → getD (now next) i 0 < 256) ⌝ }
-    ensures { λ r. ⌜ r ≡ worthWalk (now (next .entry)) (now (degree .entry)) (now (unranked .entry)) w t q ⌝ }
-{
-    if !unranked[w] {
-        return false;
-    }
-    if w == t {
-        return false;
-    }
-    if both(unranked, t, q) {
-        return false;
-    }
-    borders(next, degree, unranked, w)
-}
-
-// Part w is unranked and a candidate. A part that it cuts off is noted beside it.
-fn is_next(
+// Part w is known to separate its witness from t: both are unranked.
+fn is_known_separator(
     list: &[u32],
-    next: &[u16; 1024],
-    degree: &[u8; 256],
-    unranked: &[bool; 256],
-    noted: &mut [u16; 256],
-    w: usize,
+    unranked: &[bool; MOST_PARTS],
+    witness: &[u16; MOST_PARTS],
+    w: Part,
 ) -> bool
-    requires { ⌜ Adjacent (now list) (now next) (now degree) ⌝ }
-    requires { ⌜ Noted (now list) (now unranked) (now noted) ⌝ }
-    requires { ⌜ w < stationOf (now list) .parts ⌝ }
-    ensures { λ r. ⌜ r ≡ eligible (now (list .entry)) (now (unranked .entry)) w ⌝ }
-    ensures { λ r. ⌜ Noted (now (list .entry)) (now (unranked .entry)) (now (noted .exit)) ⌝ }
+    requires { ⌜ Drawable (now list) ⌝ }
+    requires { ⌜ Witnesses (now list) (now unranked) (now witness) ⌝ }
+    requires { ⌜ w .0 < mostParts ⌝ }
+    ensures { λ r. ⌜ r ≡ knownSeparator (now (list .entry)) (now (unranked .entry)) (now (witness .entry)) (w .0) ⌝ }
 {
     let t = fields::analyser(list).0 as usize;
-    let q = noted[w] as usize;
-    if !is_worth_a_walk(next, degree, unranked, w, t, q) {
+    let q = witness[w.0 as usize] as usize;
+    unranked[t] && unranked[q]
+}
+
+// The tests of a candidate that need no walk: part w is unranked, is not t, is not known to separate its witness from t, and is joined to a ranked part.
+fn may_be_next(
+    list: &[u32],
+    table: &Table,
+    unranked: &[bool; MOST_PARTS],
+    witness: &[u16; MOST_PARTS],
+    w: Part,
+) -> bool
+    requires { ⌜ Adjacent (now list) (now table) ⌝ }
+    requires { ⌜ Witnesses (now list) (now unranked) (now witness) ⌝ }
+    requires { ⌜ w .0 < mostParts ⌝ }
+    ensures { λ r. ⌜ r ≡ mayBeNext (now (list .entry)) (now (table .entry)) (now (unranked .entry)) (now (witness .entry)) (w .0) ⌝ }
+{
+    if !unranked[w.0 as usize] {
         return false;
     }
-    let Found::At(c) = walk::cut_off(list, next, degree, unranked, w) else {
+    if w.0 == fields::analyser(list).0 {
+        return false;
+    }
+    if is_known_separator(list, unranked, witness, w) {
+        return false;
+    }
+    borders(table, unranked, w)
+}
+
+// Part w is unranked and a candidate. A part that it separates from t becomes its witness.
+fn is_next(
+    list: &[u32],
+    table: &Table,
+    unranked: &[bool; MOST_PARTS],
+    witness: &mut [u16; MOST_PARTS],
+    w: Part,
+) -> bool
+    requires { ⌜ Adjacent (now list) (now table) ⌝ }
+    requires { ⌜ Witnesses (now list) (now unranked) (now witness) ⌝ }
+    requires { ⌜ w .0 < stationOf (now list) .parts ⌝ }
+    ensures { λ r. ⌜ r ≡ eligible (now (list .entry)) (now (unranked .entry)) (w .0) ⌝ }
+    ensures { λ r. ⌜ Witnesses (now (list .entry)) (now (unranked .entry)) (now (witness .exit)) ⌝ }
+{
+    if !may_be_next(list, table, unranked, witness, w) {
+        return false;
+    }
+    let Found::At(q) = walk::cut_off(list, table, unranked, w) else {
         return true;
     };
-    noted[w] = c as u16;
+    witness[w.0 as usize] = q as u16;
     false
 }
 
 // The 'lowest-numbered' candidate, or t where there is none.
 fn choose(
     list: &[u32],
-    next: &[u16; 1024],
-    degree: &[u8; 256],
-    unranked: &[bool; 256],
-    noted: &mut [u16; 256],
-) -> usize
-    requires { ⌜ Adjacent (now list) (now next) (now degree) ⌝ }
-    requires { ⌜ Noted (now list) (now unranked) (now noted) ⌝ }
-    ensures { λ r. ⌜ r ≡ chosenPart (now (list .entry)) (now (unranked .entry)) ⌝ }
-    ensures { λ r. ⌜ Noted (now (list .entry)) (now (unranked .entry)) (now (noted .exit)) ⌝ }
+    table: &Table,
+    unranked: &[bool; MOST_PARTS],
+    witness: &mut [u16; MOST_PARTS],
+) -> Part
+    requires { ⌜ Adjacent (now list) (now table) ⌝ }
+    requires { ⌜ Witnesses (now list) (now unranked) (now witness) ⌝ }
+    ensures { λ r. ⌜ r .0 ≡ chosenPart (now (list .entry)) (now (unranked .entry)) ⌝ }
+    ensures { λ r. ⌜ Witnesses (now (list .entry)) (now (unranked .entry)) (now (witness .exit)) ⌝ }
 {
     let n = fields::part_count(list);
     let mut w = 0;
     while w < n {
-        if is_next(list, next, degree, unranked, noted, w) {
-            return w;
+        if is_next(list, table, unranked, witness, Part(w as u16)) {
+            return Part(w as u16);
         }
         w += 1;
     }
-    fields::analyser(list).0 as usize
+    fields::analyser(list)
 }
 
 // The parts by rank, in the first n places.
-pub fn order_parts(list: &[u32], next: &[u16; 1024], degree: &[u8; 256]) -> [u16; 256]
-    requires { ⌜ Adjacent (now list) (now next) (now degree) ⌝ }
+pub fn order_parts(list: &[u32], table: &Table) -> [u16; MOST_PARTS]
+    requires { ⌜ Adjacent (now list) (now table) ⌝ }
     ensures { λ r. ⌜ take (stationOf (now (list .entry)) .parts) r ≡ order (stationOf (now (list .entry))) ⌝ }
-    ensures { λ r. ⌜ ((k : ℕ) → getD r k 0 < 256) ⌝ }
+    ensures { λ r. ⌜ ((k : ℕ) → getD r k 0 < mostParts) ⌝ }
 {
     let n = fields::part_count(list);
     let s = fields::source(list).0;
-    let mut parts = [s; 256];
-    let mut noted = [s; 256];
-    let mut unranked = [true; 256];
+    let mut parts = [s; MOST_PARTS];
+    let mut witness = [s; MOST_PARTS];
+    let mut unranked = [true; MOST_PARTS];
     unranked[s as usize] = false;
     let mut k = 1;
     while k < n {
-        let w = choose(list, next, degree, &unranked, &mut noted);
-        parts[k] = w as u16;
-        unranked[w] = false;
+        let w = choose(list, table, &unranked, &mut witness).0;
+        parts[k] = w;
+        unranked[w as usize] = false;
         k += 1;
     }
     parts
 }
 
 // Rank by part and part by rank, from the last rank down.
-pub fn ranking_of(parts: &[u16; 256], n: usize) -> Ranking
-    requires { ⌜ (n ≤ 256) × (length (now parts) ≡ 256) × ((k : ℕ) → getD (now parts) k 0 < 256) ⌝ }
+pub fn ranking_of(parts: &[u16; MOST_PARTS], n: usize) -> Ranking
+    requires { ⌜ (n ≤ mostParts) × (length (now parts) ≡ mostParts) × ((k : ℕ) → getD (now parts) k 0 < mostParts) ⌝ }
     ensures { λ r. ⌜ BothWays (take n (now (parts .entry))) r ⌝ }
 {
-    let mut rank = [Rank(0); 256];
-    let mut part = [Part(0); 256];
+    let mut rank = [Rank(0); MOST_PARTS];
+    let mut part = [Part(0); MOST_PARTS];
     let mut k = n;
     while 0 < k {
         k -= 1;

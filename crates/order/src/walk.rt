@@ -1,32 +1,34 @@
 // Walks among the parts of a set (document 01, checks 9 and 10 and 'The order of parts').
+use crate::adjacency::DEGREES;
+use crate::adjacency::Table;
 use lists::Found;
 use station::fields;
+use words::Part;
+use words::limits::MOST_PARTS;
+use words::limits::STACK_PLACES;
 ghost use mathlib.Core.Path.{_≡_};
 ghost use mathlib.Core.Bool.{false};
-ghost use Prim.Native.Nat.{_+_, _-_, _<_, _≤_};
+ghost use Prim.Native.Nat.{_+_, _<_, _≤_};
 ghost use lib.ListN.{length, getD};
+ghost use Rattle.words.specs.Limits.{mostParts, stackPlaces};
 ghost use Rattle.lists.specs.Search.{seek};
+ghost use Rattle.lists.specs.Select.{without};
 ghost use Rattle.station.specs.Station.{stationOf};
 ghost use Rattle.order.specs.Reach.{unreached};
-ghost use Rattle.order.specs.Tables.{Room, Adjacent, row, setOf, Pushed, Stepped, CutOff};
+ghost use Rattle.order.specs.Tables.{neighboursIn, TableFits, Adjacent, setOf, Pushed, Steppable, Stepped, CutOff};
 
-// The neighbours of p put on the stack, the first on top.
-fn push(
-    next: &[u16; 1024],
-    degree: &[u8; 256],
-    p: usize,
-    stack: &mut [u16; 1280],
-    top: usize,
-) -> usize
-    requires { ⌜ Room (now next) (now degree) ⌝ }
-    requires { ⌜ (p < 256) × (length (now stack) ≡ 1280) × (top + 4 ≤ 1280) ⌝ }
-    ensures { λ r. ⌜ Pushed (row (now (next .entry)) (now (degree .entry)) p) (now (stack .entry)) top (now (stack .exit)) r ⌝ }
+// The neighbours of p put on the stack, the first on top. The stack's height after it.
+fn push(table: &Table, p: Part, stack: &mut [u16; STACK_PLACES], top: usize) -> usize
+    requires { ⌜ TableFits (now table) ⌝ }
+    requires { ⌜ (p .0 < mostParts) × (length (now stack) ≡ stackPlaces) × (top + 4 ≤ stackPlaces) ⌝ }
+    ensures { λ r. ⌜ Pushed (neighboursIn (now (table .entry)) (p .0)) (now (stack .entry)) top (now (stack .exit)) r ⌝ }
 {
+    let i = p.0 as usize;
     let mut at = top;
-    let mut j = degree[p] as usize;
+    let mut j = table[DEGREES + i] as usize;
     while 0 < j {
         j -= 1;
-        stack[at] = next[4 * p + j];
+        stack[at] = table[4 * i + j];
         at += 1;
     }
     at
@@ -34,20 +36,18 @@ fn push(
 
 // One step of a walk. The stack's height after it.
 fn step(
-    next: &[u16; 1024],
-    degree: &[u8; 256],
-    left: &mut [bool; 256],
-    stack: &mut [u16; 1280],
+    table: &Table,
+    left: &mut [bool; MOST_PARTS],
+    stack: &mut [u16; STACK_PLACES],
     top: usize,
 ) -> usize
-    requires { ⌜ Room (now next) (now degree) ⌝ }
-    requires { ⌜ (length (now stack) ≡ 1280) × (0 < top) × (top + 3 ≤ 1280) × (getD (now stack) (top - 1) 0 < 256) ⌝ }
-    ensures { λ r. ⌜ Stepped (now (next .entry)) (now (degree .entry)) (now (left .entry)) (now (stack .entry)) top (now (left .exit)) (now (stack .exit)) r ⌝ }
+    requires { ⌜ Steppable (now table) (now stack) top ⌝ }
+    ensures { λ r. ⌜ Stepped (now (table .entry)) (now (left .entry)) (now (stack .entry)) top (now (left .exit)) (now (stack .exit)) r ⌝ }
 {
-    let p = stack[top - 1] as usize;
-    if left[p] {
-        left[p] = false;
-        return push(next, degree, p, stack, top - 1);
+    let p = stack[top - 1];
+    if left[p as usize] {
+        left[p as usize] = false;
+        return push(table, Part(p), stack, top - 1);
     }
     top - 1
 }
@@ -55,28 +55,27 @@ fn step(
 // The parts of a set that part p does not reach inside the set.
 pub fn unreached(
     list: &[u32],
-    next: &[u16; 1024],
-    degree: &[u8; 256],
-    set: [bool; 256],
-    p: usize,
-) -> [bool; 256]
-    requires { ⌜ Adjacent (now list) (now next) (now degree) ⌝ }
-    requires { ⌜ p < stationOf (now list) .parts ⌝ }
-    ensures { λ r. ⌜ setOf (now (list .entry)) r ≡ unreached (stationOf (now (list .entry)) .cables) (setOf (now (list .entry)) set) p ⌝ }
+    table: &Table,
+    set: [bool; MOST_PARTS],
+    p: Part,
+) -> [bool; MOST_PARTS]
+    requires { ⌜ Adjacent (now list) (now table) ⌝ }
+    requires { ⌜ p .0 < stationOf (now list) .parts ⌝ }
+    ensures { λ r. ⌜ setOf (now (list .entry)) r ≡ unreached (stationOf (now (list .entry)) .cables) (setOf (now (list .entry)) set) (p .0) ⌝ }
 {
     let mut left = set;
-    let mut stack = [0u16; 1280];
-    stack[0] = p as u16;
+    let mut stack = [0u16; STACK_PLACES];
+    stack[0] = p.0;
     let mut top = 1;
     while 0 < top {
-        top = step(next, degree, &mut left, &mut stack, top);
+        top = step(table, &mut left, &mut stack, top);
     }
     left
 }
 
 // The lowest part of a set.
-pub fn lowest(set: &[bool; 256], n: usize) -> Found
-    requires { ⌜ n ≤ 256 ⌝ }
+pub fn lowest(set: &[bool; MOST_PARTS], n: usize) -> Found
+    requires { ⌜ n ≤ mostParts ⌝ }
     ensures { λ r. ⌜ r ≡ seek (λ p. getD (now (set .entry)) p false) 0 n ⌝ }
 {
     let mut p = 0;
@@ -89,28 +88,30 @@ pub fn lowest(set: &[bool; 256], n: usize) -> Found
     Found::Nothing
 }
 
-// Of the parts of a set other than v: one that has no path to t among them, or nothing where they are joined to each other.
-pub fn cut_off(
-    list: &[u32],
-    next: &[u16; 1024],
-    degree: &[u8; 256],
-    set: &[bool; 256],
-    v: usize,
-) -> Found
-    requires { ⌜ Adjacent (now list) (now next) (now degree) ⌝ }
-    requires { ⌜ v < stationOf (now list) .parts ⌝ }
-    ensures { λ r. ⌜ CutOff (now (list .entry)) (now (set .entry)) v r ⌝ }
+// Of the parts of a set: one that has no path to t inside the set, or nothing where they are joined to each other.
+fn cut_off_in(list: &[u32], table: &Table, set: [bool; MOST_PARTS]) -> Found
+    requires { ⌜ Adjacent (now list) (now table) ⌝ }
+    ensures { λ r. ⌜ CutOff (now (list .entry)) (setOf (now (list .entry)) set) r ⌝ }
 {
     let n = fields::part_count(list);
     let t = fields::analyser(list).0 as usize;
-    let mut rest = *set;
-    rest[v] = false;
-    let Found::At(p) = lowest(&rest, n) else {
+    let Found::At(p) = lowest(&set, n) else {
         return Found::Nothing;
     };
-    let left = unreached(list, next, degree, rest, p);
+    let left = unreached(list, table, set, Part(p as u16));
     if left[t] {
         return Found::At(p);
     }
     lowest(&left, n)
+}
+
+// The same of the parts of a set other than v.
+pub fn cut_off(list: &[u32], table: &Table, set: &[bool; MOST_PARTS], v: Part) -> Found
+    requires { ⌜ Adjacent (now list) (now table) ⌝ }
+    requires { ⌜ v .0 < mostParts ⌝ }
+    ensures { λ r. ⌜ CutOff (now (list .entry)) (without (v .0) (setOf (now (list .entry)) (now (set .entry)))) r ⌝ }
+{
+    let mut rest = *set;
+    rest[v.0 as usize] = false;
+    cut_off_in(list, table, rest)
 }

@@ -11,8 +11,10 @@ use borrow.Author.Tests.{ltb-false}
 use Rattle.lists.specs.Stores.{Stored}
 use Rattle.lists.proofs.Stores.{stored-as}
 use Rattle.station.specs.Station.{stationOf}
-use Rattle.station.specs.Checks.{Verdict, passed, refused}
-use Rattle.order.specs.Verdict.{verdict10}
+use Rattle.station.specs.declared.Verdict.{Verdict}
+use Rattle.station.specs.declared.Verdict.the-variants.{Passed, Refused}
+use Rattle.station.specs.Checks.{firstRefusal, Clear}
+use Rattle.order.specs.Checks.{allChecks}
 use Rattle.drawing.specs.Drawing.{Drawing, crossings}
 use Rattle.drawing.specs.Sheet.{sheetWords}
 use Rattle.hookup.specs.Drawing.{drawing}
@@ -38,11 +40,11 @@ fitted-within d room = go (ltb room (length (sheetWords d))) refl
 -- check 11: 'output shorter than the sheet'
 pub outcome-within : (list : List ℕ) (room : ℕ) → Within room (outcome list room)
 unfolding outcome orDrawn
-outcome-within list room = go (verdict10 list)
+outcome-within list room = go (firstRefusal allChecks list)
   where
     go : (v : Verdict) → Within room (orDrawn v (fitted (drawing (stationOf list)) room))
-    go passed = fitted-within (drawing (stationOf list)) room
-    go (refused check place) = tt
+    go Passed = fitted-within (drawing (stationOf list)) room
+    go (Refused check place) = tt
 
 -- nine bytes a word are room enough where there are six words
 pub length-answerText : (room : ℕ) (o : Outcome) → 6 ≤ room → Within room o → length (answerText o) ≤ 9 * room

@@ -3,8 +3,8 @@ use Prim.Native.Nat.{ℕ}
 use mathlib.Core.Path.{_≡_, refl, _∙_}
 use mathlib.Core.List.{List, [], _∷_}
 use Rattle.lists.specs.Select.{upFrom, range, tabulate}
-use Rattle.station.specs.Checks.{orElse, atWhen, check1, checked}
-use Rattle.order.specs.Verdict.{verdict10}
+use Rattle.station.specs.Checks.{orElse, firstRefusal, atWhen, check1, listChecks}
+use Rattle.order.specs.Checks.{allChecks}
 use Rattle.hookup.specs.Outcome.{fitted, orDrawn, outcome}
 use Rattle.hookup.proofs.Table.{triangle}
 use Rattle.hookup.proofs.Triangle.{nine, triangle-passes, triangle-words}
@@ -46,7 +46,7 @@ triangle-printed = rw (file-whole, file-words) (answer-text ∙ nine-text)
 
 -- 'no words: 0'
 pub empty-printed : printed [] room ≡ ascii "refused 1 0\n"
-unfolding printed loaded wordsIn upFrom range tabulate outcome orDrawn verdict10 checked orElse check1 atWhen refusedLine decimal digits
+unfolding printed loaded wordsIn upFrom range tabulate outcome orDrawn firstRefusal listChecks allChecks orElse check1 atWhen refusedLine decimal digits
 empty-printed = refl
 
 pub broken-printed : printed (0x10 ∷ 3 ∷ 0 ∷ 3 ∷ 0x20 ∷ []) room ≡ ascii "broken file\n"

@@ -4,6 +4,7 @@ use mathlib.Core.Bool.{cond}
 use mathlib.Core.List.{List, _++_}
 use lib.ListN.{length, drop}
 use lib.Dec.{ltb, eqb}
+use Rattle.words.specs.Limits.{mostWords}
 use Rattle.hookup.specs.Outcome.{Outcome, drawn, sentBack, outcome}
 use Rattle.text.specs.Ascii.{ascii}
 use Rattle.text.specs.Bytes.{wordsIn}
@@ -11,9 +12,13 @@ use Rattle.text.specs.Lines.{hexLines, refusedLine}
 use Rattle.printing.specs.declared.Loaded.{Loaded}
 use Rattle.printing.specs.declared.Loaded.the-variants.{TooLarge, Broken, Words}
 
+-- 'one above 65,536 bytes'
+abbrev pub mostBytes : ℕ
+mostBytes = 65536
+
 -- 'An input ending inside a word prints `broken file`; one above 65,536 bytes prints `file too large`, tested first.'
 unfoldable pub loaded : List ℕ → Loaded
-loaded bytes = cond (ltb 65536 (length bytes)) TooLarge (cond (eqb (length bytes % 4) 0) (Words (length bytes / 4)) Broken)
+loaded bytes = cond (ltb mostBytes (length bytes)) TooLarge (cond (eqb (length bytes % 4) 0) (Words (length bytes / 4)) Broken)
 
 -- the row that the words of a file are stored into
 abbrev pub loadedRow : Loaded → List ℕ → List ℕ → List ℕ
@@ -34,7 +39,7 @@ fileText (Words n) text = text
 
 -- the program's room for a sheet, in words
 abbrev pub room : ℕ
-room = 2048
+room = mostWords
 
 -- what is printed of a file's bytes, where there is room for so many words of a sheet
 unfoldable pub printed : List ℕ → ℕ → List ℕ

@@ -5,19 +5,20 @@ use text::bytes::read_words;
 use text::lines::put_hex_lines;
 use text::lines::put_refused;
 use text::lines::put_text;
+use words::limits::MOST_WORDS;
 ghost use mathlib.Core.Path.{_≡_};
 ghost use mathlib.Core.List.{_++_};
-ghost use Prim.Native.Nat.{_*_, _≤_};
-ghost use lib.ListN.{length, drop};
+ghost use Prim.Native.Nat.{_+_, _*_, _≤_};
+ghost use lib.ListN.{length, take, drop};
 ghost use Rattle.lists.specs.Stores.{Stored};
 ghost use Rattle.hookup.specs.Outcome.{outcome};
-ghost use Rattle.printing.specs.Printed.{room, loaded, loadedRow, answerText, printed};
+ghost use Rattle.printing.specs.Printed.{mostBytes, room, loaded, loadedRow, answerText, printed};
 
 // A file has at most so many bytes.
 pub const MOST_BYTES: usize = 65536;
 
-// The row for a sheet, in words: more than any sheet has.
-pub const ROOM: usize = 2048;
+// The row for a sheet, in words: as many as the longest has.
+pub const ROOM: usize = MOST_WORDS;
 
 // What a file is: above 65,536 bytes, ending inside a word, or so many words.
 pub enum Loaded {
@@ -68,4 +69,14 @@ pub fn print_sheet(bytes: &[u8], out: &mut [u8]) -> usize
         Loaded::Broken => put_text(out, 0, b"broken file\n"),
         Loaded::Words(n) => print_list(&words[..n], out),
     }
+}
+
+// The text for a file, of which count bytes were read into a buffer with room for one byte more than a file may have: a file that is too large shows.
+pub fn print_read(buffer: &[u8], count: usize, out: &mut [u8]) -> usize
+    requires { ⌜ (length (now buffer) ≡ mostBytes + 1) × (count ≤ length (now buffer)) ⌝ }
+    requires { ⌜ 9 * room ≤ length (now out) ⌝ }
+    ensures count { λ r. ⌜ r ≡ length (printed (take count (now (buffer .entry))) room) ⌝ }
+    ensures text { λ r. ⌜ now (out .exit) ≡ printed (take count (now (buffer .entry))) room ++ drop r (now (out .entry)) ⌝ }
+{
+    print_sheet(&buffer[..count], out)
 }

@@ -4,12 +4,12 @@ use libc::STDIN_FILENO;
 use libc::STDOUT_FILENO;
 use printing::MOST_BYTES;
 use printing::ROOM;
-use printing::print_sheet;
+use printing::print_read;
 
 fn main() {
     let mut bytes = [0u8; MOST_BYTES + 1];
     let mut out = [0u8; 9 * ROOM];
     let n = io::read_full(STDIN_FILENO, &mut bytes);
-    let end = print_sheet(&bytes[..n], &mut out);
+    let end = print_read(&bytes, n, &mut out);
     io::write_all(STDOUT_FILENO, &out[..end]);
 }

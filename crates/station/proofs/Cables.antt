@@ -5,41 +5,39 @@ use mathlib.Core.List.{List}
 use native.Mathlib.Omega.{arith}
 use lib.ListN.{length, getD, drop, length-drop, length-map, List·getD-map}
 use lib.Seq.{getD-drop}
-use Rattle.lists.proofs.Select.{getD-map}
 use Rattle.words.specs.Words.{firstOf, secondOf, partsOf}
-use Rattle.station.specs.Station.{Cable, cableOf, stationOf}
+use Rattle.station.specs.Station.{Cable, noCable, cableOf, stationOf}
 
-pub parts-are : (list : List ℕ) → stationOf list .parts ≡ partsOf (getD list 0 0)
-unfolding stationOf
-parts-are list = refl
+module _ (list : List ℕ) where
+  pub parts-are : stationOf list .parts ≡ partsOf (getD list 0 0)
+  unfolding stationOf
+  parts-are = refl
 
-pub source-is : (list : List ℕ) → stationOf list .source ≡ firstOf (getD list 1 0)
-unfolding stationOf
-source-is list = refl
+  pub source-is : stationOf list .source ≡ firstOf (getD list 1 0)
+  unfolding stationOf
+  source-is = refl
 
-pub analyser-is : (list : List ℕ) → stationOf list .analyser ≡ secondOf (getD list 1 0)
-unfolding stationOf
-analyser-is list = refl
+  pub analyser-is : stationOf list .analyser ≡ secondOf (getD list 1 0)
+  unfolding stationOf
+  analyser-is = refl
 
-pub one-of : (w : ℕ) → cableOf w .one ≡ firstOf w
-unfolding cableOf
-one-of w = refl
+  pub cables-count : length (stationOf list .cables) ≡ length list - 2
+  unfolding stationOf
+  cables-count = length-map (drop 2 list) cableOf ∙ length-drop 2 list
 
-pub other-of : (w : ℕ) → cableOf w .other ≡ secondOf w
-unfolding cableOf
-other-of w = refl
+  -- the word of a line
+  pub line-word : (line : ℕ) → line < length (stationOf list .cables) → 2 + line < length list
+  line-word line h = omega (arith, cables-count)
 
-pub cables-count : (list : List ℕ) → length (stationOf list .cables) ≡ length list - 2
-unfolding stationOf
-cables-count list = length-map (drop 2 list) cableOf ∙ length-drop 2 list
+  -- 'Cable line 0 is the first kind 3 word.'
+  pub cable-at : (line : ℕ) → getD (stationOf list .cables) line noCable ≡ cableOf (getD list (2 + line) 0)
+  unfolding stationOf cableOf
+  cable-at line = List·getD-map cableOf (drop 2 list) line 0 ∙ ap cableOf (getD-drop 2 list line 0)
 
--- 'Cable line 0 is the first kind 3 word.'
-pub cable-is : (list : List ℕ) (i : ℕ) (d : Cable) → i < length (stationOf list .cables) → getD (stationOf list .cables) i d ≡ cableOf (getD list (2 + i) 0)
-unfolding stationOf
-cable-is list i d l =
-    getD-map cableOf (drop 2 list) i 0 d (omega (arith, length-map (drop 2 list) cableOf)) ∙ ap cableOf (getD-drop 2 list i 0)
+  pub one-at : (line : ℕ) → getD (stationOf list .cables) line noCable .one ≡ firstOf (getD list (2 + line) 0)
+  unfolding cableOf
+  one-at line = ap (λ (c : Cable). c .one) (cable-at line)
 
--- the same past the end, where the cable of word 0 stands
-pub cable-at : (list : List ℕ) (line : ℕ) → getD (stationOf list .cables) line (cableOf 0) ≡ cableOf (getD list (2 + line) 0)
-unfolding stationOf
-cable-at list line = List·getD-map cableOf (drop 2 list) line 0 ∙ ap cableOf (getD-drop 2 list line 0)
+  pub other-at : (line : ℕ) → getD (stationOf list .cables) line noCable .other ≡ secondOf (getD list (2 + line) 0)
+  unfolding cableOf
+  other-at line = ap (λ (c : Cable). c .other) (cable-at line)

@@ -1,5 +1,5 @@
 -- Check 7 by a table of the pairs of parts that earlier cables join. Assumes nothing.
-use Prim.Native.Nat.{ℕ, suc, _+_, _*_, _-_, _≤_, _<_, min, max}
+use Prim.Native.Nat.{ℕ, suc, _+_, _-_, _≤_, _<_}
 use mathlib.Core.Path.{_≡_, sym, _∙_}
 use mathlib.Core.Bool.{Bool, true, false, _&&_, _||_, or-true, or-false}
 use mathlib.Core.Logic.{_⊎_, inl, inr, ⊎-elim}
@@ -14,15 +14,12 @@ use Rattle.lists.specs.Search.{seek, isFound}
 use Rattle.lists.proofs.Search.{found-more}
 use Rattle.lists.proofs.Bools.{and-e, or-e, or-right, same-test}
 use Rattle.words.specs.Words.{firstOf, secondOf}
-use Rattle.lists.specs.declared.Found.the-variants.{Nothing}
-use Rattle.station.specs.Checks.{check4, check5, sameParts, repeated}
+use Rattle.words.specs.Limits.{mostParts, pairPlaces}
+use Rattle.station.specs.Checks.{Clear, sameParts, repeated}
+use Rattle.station.specs.Code.{upTo, pairIndex}
 use Rattle.station.proofs.Each.{parts-between, inside}
 
--- the entry of two parts, either way round, in a table of 256 rows of 256
-abbrev pub pairIndex : ℕ → ℕ → ℕ
-pairIndex a b = min a b * 256 + max a b
-
-index-same : (a b c d : ℕ) → a < 256 → b < 256 → c < 256 → d < 256 → pairIndex a b ≡ pairIndex c d → ((a ≡ c) × (b ≡ d)) ⊎ ((a ≡ d) × (b ≡ c))
+index-same : (a b c d : ℕ) → a < mostParts → b < mostParts → c < mostParts → d < mostParts → pairIndex a b ≡ pairIndex c d → ((a ≡ c) × (b ≡ d)) ⊎ ((a ≡ d) × (b ≡ c))
 index-same a b c d ha hb hc hd e = go (decLt a b) (decLt c d)
   where
     go : Dec (a < b) → Dec (c < d) → ((a ≡ c) × (b ≡ d)) ⊎ ((a ≡ d) × (b ≡ c))
@@ -31,7 +28,7 @@ index-same a b c d ha hb hc hd e = go (decLt a b) (decLt c d)
     go (no h) (yes k) = inr (omega arith, omega arith)
     go (no h) (no k) = inl (omega arith, omega arith)
 
-same-index : (a b c d : ℕ) → a < 256 → b < 256 → c < 256 → d < 256
+same-index : (a b c d : ℕ) → a < mostParts → b < mostParts → c < mostParts → d < mostParts
     → ((eqb a c && eqb b d) || (eqb a d && eqb b c)) ≡ eqb (pairIndex a b) (pairIndex c d)
 same-index a b c d ha hb hc hd =
     same-test ((eqb a c && eqb b d) || (eqb a d && eqb b c)) (eqb (pairIndex a b) (pairIndex c d)) to from
@@ -51,15 +48,15 @@ same-index a b c d ha hb hc hd =
         (λ r. or-right (eqb a c && eqb b d) (eqb a d && eqb b c) (rw (eq-eqb a d (r .0), eq-eqb b c (r .1))))
         (index-same a b c d ha hb hc hd (eqb-true (pairIndex a b) (pairIndex c d) h))
 
--- a word whose two parts are below 256
+-- a word whose two parts the table has room for
 pub record Below (w : ℕ) : Type 0 where
-  pub first : firstOf w < 256
-  pub second : secondOf w < 256
+  pub first : firstOf w < mostParts
+  pub second : secondOf w < mostParts
 
 abbrev pub wordIndex : ℕ → ℕ
 wordIndex w = pairIndex (firstOf w) (secondOf w)
 
-pub index-below : (w : ℕ) → Below w → wordIndex w < 65536
+pub index-below : (w : ℕ) → Below w → wordIndex w < pairPlaces
 index-below w h = omega arith
 
 same-word : (v w : ℕ) → Below v → Below w → sameParts v w ≡ eqb (wordIndex v) (wordIndex w)
@@ -69,15 +66,15 @@ same-word v w h k = same-index (firstOf v) (secondOf v) (firstOf w) (secondOf w)
 -- The table after the words before i: an entry is set where one of them joins its two parts.
 pub record Table (list : List ℕ) (seen : List Bool) (i : ℕ) : Type 0 where
   pub from : 2 ≤ i
-  pub upTo : i ≤ length list
-  pub long : length seen ≡ 65536
+  pub to : i ≤ length list
+  pub long : length seen ≡ pairPlaces
   pub joined : (w : ℕ) → Below w → getD seen (wordIndex w) false ≡ isFound (seek (λ j. sameParts (getD list j 0) w) 2 (i - 2))
 
-pub table-start : (list : List ℕ) (k : ℕ) → k ≡ 65536 → 2 ≤ length list → Table list (replicate k false) 2
+pub table-start : (list : List ℕ) (k : ℕ) → k ≡ pairPlaces → 2 ≤ length list → Table list (replicate k false) 2
 unfolding seek
 table-start list k e h = record {
   from = omega arith;
-  upTo = h;
+  to = h;
   long = length-replicate k false ∙ e;
   joined = λ w b. getD-replicate k (wordIndex w) false false (omega (arith, index-below w b));
 }
@@ -93,7 +90,7 @@ pub table-more : (list : List ℕ) (seen : List Bool) (i : ℕ) → Table list s
     → Table list (set seen (wordIndex (getD list i 0)) true) (i + 1)
 table-more list seen i t h b = record {
   from = omega arith;
-  upTo = omega arith;
+  to = omega arith;
   long = simp length-set (t .long);
   joined = λ w k. next w k;
 }
@@ -110,8 +107,8 @@ pub table-says : (list : List ℕ) (seen : List Bool) (i : ℕ) → Table list s
 unfolding repeated
 table-says list seen i t b = t .joined (getD list i 0) b
 
-pub below : (list : List ℕ) (i : ℕ) → check4 list ≡ Nothing → check5 list ≡ Nothing → 1 ≤ i → i < length list → Below (getD list i 0)
-below list i e4 e5 h l =
-    let n = parts-between list e4 in
-    let p = inside list e5 i h l in
+pub below : (list : List ℕ) (i : ℕ) → Clear (upTo 5) list → 1 ≤ i → i < length list → Below (getD list i 0)
+below list i C h l =
+    let n = parts-between list 5 C (omega arith) in
+    let p = inside list 5 C (omega arith) i h l in
     record { first = omega (arith, n .1, p .0); second = omega (arith, n .1, p .1) }

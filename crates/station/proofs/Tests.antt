@@ -9,6 +9,7 @@ use lib.ListN.{length, getD}
 use lib.Dec.{eqb, ltb, leb}
 use Rattle.lists.specs.declared.Found.the-variants.{At, Nothing}
 use Rattle.words.specs.Words.{kindOf, spareOf, firstOf, secondOf, partsOf, cablesOf, listHead, ends, cable}
+use Rattle.words.specs.Limits.{leastParts, mostParts, mostDegree}
 use Rattle.station.specs.Checks.{atWhen, kindAt, misplaced, check3, check4, outside}
 
 -- ---- check 2
@@ -47,17 +48,17 @@ module _ (list : List ℕ) where
   unfolding check3 atWhen
   length-right h = rw (eq-eqb (length list) (cablesOf (getD list 0 0) + 2) h)
 
-  pub parts-few : partsOf (getD list 0 0) < 3 → At (partsOf (getD list 0 0)) ≡ check4 list
+  pub parts-few : partsOf (getD list 0 0) < leastParts → At (partsOf (getD list 0 0)) ≡ check4 list
   unfolding check4 atWhen
-  parts-few h = rw (lt-ltb (partsOf (getD list 0 0)) 3 h)
+  parts-few h = rw (lt-ltb (partsOf (getD list 0 0)) leastParts h)
 
-  pub parts-many : 256 < partsOf (getD list 0 0) → At (partsOf (getD list 0 0)) ≡ check4 list
+  pub parts-many : mostParts < partsOf (getD list 0 0) → At (partsOf (getD list 0 0)) ≡ check4 list
   unfolding check4 atWhen
-  parts-many h = rw (le-ltb (partsOf (getD list 0 0)) 3 (omega arith), lt-ltb 256 (partsOf (getD list 0 0)) h)
+  parts-many h = rw (le-ltb (partsOf (getD list 0 0)) leastParts (omega arith), lt-ltb mostParts (partsOf (getD list 0 0)) h)
 
-  pub parts-right : 3 ≤ partsOf (getD list 0 0) → partsOf (getD list 0 0) ≤ 256 → Nothing ≡ check4 list
+  pub parts-right : leastParts ≤ partsOf (getD list 0 0) → partsOf (getD list 0 0) ≤ mostParts → Nothing ≡ check4 list
   unfolding check4 atWhen
-  parts-right h k = rw (le-ltb (partsOf (getD list 0 0)) 3 h, le-ltb 256 (partsOf (getD list 0 0)) k)
+  parts-right h k = rw (le-ltb (partsOf (getD list 0 0)) leastParts h, le-ltb mostParts (partsOf (getD list 0 0)) k)
 
 -- ---- check 5
 pub outside-first : (n w : ℕ) → n ≤ firstOf w → true ≡ outside n w
@@ -69,8 +70,8 @@ unfolding outside
 outside-second n w h = rw (lt-leb n (firstOf w) h)
 
 -- ---- check 8
-pub over-four : (x d : ℕ) → x ≡ d → 4 < x → ltb 4 d ≡ true
-over-four x d e h = lt-ltb 4 d (omega arith)
+pub degree-over : (x d : ℕ) → x ≡ d → mostDegree < x → ltb mostDegree d ≡ true
+degree-over x d e h = lt-ltb mostDegree d (omega arith)
 
-pub up-to-four : (x d : ℕ) → x ≡ d → x ≤ 4 → ltb 4 d ≡ false
-up-to-four x d e h = le-ltb 4 d (omega arith)
+pub degree-within : (x d : ℕ) → x ≡ d → x ≤ mostDegree → ltb mostDegree d ≡ false
+degree-within x d e h = le-ltb mostDegree d (omega arith)

@@ -1,26 +1,40 @@
--- Document 01, 'Lists that are sent back': checks 1 to 8, each with its place. Assumes nothing.
-use Prim.Native.Nat.{ℕ, zero, suc, _+_, _-_}
+-- Document 01, 'Lists that are sent back': the first refusal, and checks 1 to 8, each with its place. A verdict is a pass, or a refusal with its number and
+-- place. Assumes nothing.
+use Prim.Native.Nat.{ℕ, _+_, _-_}
+use mathlib.Core.Path.{_≡_}
 use mathlib.Core.Bool.{Bool, cond, not, _&&_, _||_}
-use mathlib.Core.List.{List}
+use mathlib.Core.List.{List, [], _∷_}
 use lib.ListN.{length, getD}
 use lib.Dec.{eqb, ltb, leb}
 use Rattle.lists.specs.declared.Found.{Found}
 use Rattle.lists.specs.declared.Found.the-variants.{At, Nothing}
 use Rattle.lists.specs.Search.{seek, isFound}
 use Rattle.words.specs.Words.{kindOf, spareOf, firstOf, secondOf, partsOf, cablesOf, listHead, ends, cable}
+use Rattle.words.specs.Limits.{leastParts, mostParts, mostDegree}
+use Rattle.station.specs.declared.Verdict.{Verdict}
+use Rattle.station.specs.declared.Verdict.the-variants.{Passed, Refused}
 use Rattle.station.specs.Station.{stationOf, degree}
 
--- The first check that applies, with its place, or a pass.
-pub data Verdict : Type 0 where
-  passed : Verdict
-  refused : (check place : ℕ) → Verdict
+-- A check has its number, and finds its place in a list to which it applies.
+pub record Check : Type 0 where
+  pub number : ℕ
+  pub finds : List ℕ → Found
 
--- check c, at a place if it applies; else what the later checks say
+-- a refusal 'returns its number and one place'; where its check finds nothing, the later checks decide
 unfoldable pub orElse : ℕ → Found → Verdict → Verdict
-orElse c (At place) later = refused c place
-orElse c Nothing later = later
+orElse number (At place) later = Refused number place
+orElse number Nothing later = later
 
--- a place where the condition holds
+-- 'Checks run in this order, each over the whole list before the next. The first that applies is the refusal; it is given then and only then.'
+unfoldable pub firstRefusal : List Check → List ℕ → Verdict
+firstRefusal [] list = Passed
+firstRefusal (c ∷ cs) list = orElse (c .number) (c .finds list) (firstRefusal cs list)
+
+-- none of the checks applies
+abbrev pub Clear : List Check → List ℕ → Type 0
+Clear checks list = firstRefusal checks list ≡ Passed
+
+-- a place, where the condition holds
 unfoldable pub atWhen : Bool → ℕ → Found
 atWhen b place = cond b (At place) Nothing
 
@@ -46,7 +60,7 @@ check3 list = let due = cablesOf (getD list 0 0) + 2 in atWhen (not (eqb (length
 
 -- 4: 'n below 3 or above 256', 'n'
 unfoldable pub check4 : List ℕ → Found
-check4 list = let n = partsOf (getD list 0 0) in atWhen (ltb n 3 || ltb 256 n) n
+check4 list = let n = partsOf (getD list 0 0) in atWhen (ltb n leastParts || ltb mostParts n) n
 
 -- a part number of the word is n or more
 unfoldable pub outside : ℕ → ℕ → Bool
@@ -74,21 +88,17 @@ check7 list = seek (repeated list) 2 (length list - 2)
 
 -- 8: 'a part with more than four cables', 'lowest such part'
 unfoldable pub check8 : List ℕ → Found
-check8 list = let st = stationOf list in seek (λ p. ltb 4 (degree (st .cables) p)) 0 (st .parts)
+check8 list = let st = stationOf list in seek (λ p. ltb mostDegree (degree (st .cables) p)) 0 (st .parts)
 
--- 'Checks run in this order, each over the whole list before the next. The first that applies is the refusal': checks 1 to 8, then what follows
-unfoldable pub checked : List ℕ → Verdict → Verdict
-checked list later =
-    orElse 1 (check1 list)
-    (orElse 2 (check2 list)
-    (orElse 3 (check3 list)
-    (orElse 4 (check4 list)
-    (orElse 5 (check5 list)
-    (orElse 6 (check6 list)
-    (orElse 7 (check7 list)
-    (orElse 8 (check8 list)
-    later)))))))
-
--- the verdict of checks 1 to 8
-unfoldable pub verdict8 : List ℕ → Verdict
-verdict8 list = checked list passed
+-- the checks of a list's words, in their order
+unfoldable pub listChecks : List Check
+listChecks =
+    record { number = 1; finds = check1 }
+    ∷ record { number = 2; finds = check2 }
+    ∷ record { number = 3; finds = check3 }
+    ∷ record { number = 4; finds = check4 }
+    ∷ record { number = 5; finds = check5 }
+    ∷ record { number = 6; finds = check6 }
+    ∷ record { number = 7; finds = check7 }
+    ∷ record { number = 8; finds = check8 }
+    ∷ []

@@ -1,12 +1,14 @@
 // What later stages read of a list that passed.
-use lists::Found;
 use words::Part;
 use words::Word;
+use words::limits::MOST_PARTS;
 ghost use mathlib.Core.Path.{_≡_};
 ghost use Prim.Native.Nat.{ℕ, _+_, _<_, _≤_};
 ghost use lib.ListN.{length, getD};
-ghost use Rattle.station.specs.Station.{stationOf, cableOf, degree};
-ghost use Rattle.station.specs.Checks.{check3, check4, check5, check6};
+ghost use Rattle.words.specs.Limits.{mostParts};
+ghost use Rattle.station.specs.Station.{noCable, stationOf, degree};
+ghost use Rattle.station.specs.Checks.{Clear};
+ghost use Rattle.station.specs.Code.{upTo};
 
 // n, the count of parts.
 pub fn part_count(list: &[u32]) -> usize
@@ -24,7 +26,7 @@ pub fn cable_count(list: &[u32]) -> usize
     list.len() - 2
 }
 
-// s.
+// s, the source.
 pub fn source(list: &[u32]) -> Part
     requires { ⌜ 2 ≤ length (now list) ⌝ }
     ensures { λ r. ⌜ r .0 ≡ stationOf (now (list .entry)) .source ⌝ }
@@ -32,7 +34,7 @@ pub fn source(list: &[u32]) -> Part
     Part(Word(list[1]).first())
 }
 
-// t.
+// t, the analyser.
 pub fn analyser(list: &[u32]) -> Part
     requires { ⌜ 2 ≤ length (now list) ⌝ }
     ensures { λ r. ⌜ r .0 ≡ stationOf (now (list .entry)) .analyser ⌝ }
@@ -43,7 +45,7 @@ pub fn analyser(list: &[u32]) -> Part
 // The part that a cable's word names first.
 pub fn one_part(list: &[u32], line: usize) -> Part
     requires { ⌜ 2 + line < length (now list) ⌝ }
-    ensures { λ r. ⌜ r .0 ≡ getD (stationOf (now (list .entry)) .cables) line (cableOf 0) .one ⌝ }
+    ensures { λ r. ⌜ r .0 ≡ getD (stationOf (now (list .entry)) .cables) line noCable .one ⌝ }
 {
     Part(Word(list[2 + line]).first())
 }
@@ -51,17 +53,17 @@ pub fn one_part(list: &[u32], line: usize) -> Part
 // The part that a cable's word names second.
 pub fn other_part(list: &[u32], line: usize) -> Part
     requires { ⌜ 2 + line < length (now list) ⌝ }
-    ensures { λ r. ⌜ r .0 ≡ getD (stationOf (now (list .entry)) .cables) line (cableOf 0) .other ⌝ }
+    ensures { λ r. ⌜ r .0 ≡ getD (stationOf (now (list .entry)) .cables) line noCable .other ⌝ }
 {
     Part(Word(list[2 + line]).second())
 }
 
-// The cables of each part.
-pub fn cables_per_part(list: &[u32]) -> [u16; 256]
-    requires { ⌜ (check3 (now list) ≡ Found.Nothing) × (check4 (now list) ≡ Found.Nothing) × (check5 (now list) ≡ Found.Nothing) × (check6 (now list) ≡ Found.Nothing) ⌝ }
-    ensures { λ r. ⌜ ((p : ℕ) → p < 256 → getD r p 0 ≡ degree (stationOf (now (list .entry)) .cables) p) ⌝ }
+// The cables of each part, counted: its degree.
+pub fn cables_per_part(list: &[u32]) -> [u16; MOST_PARTS]
+    requires { ⌜ Clear (upTo 6) (now list) ⌝ }
+    ensures { λ r. ⌜ ((p : ℕ) → p < mostParts → getD r p 0 ≡ degree (stationOf (now (list .entry)) .cables) p) ⌝ }
 {
-    let mut counts = [0u16; 256];
+    let mut counts = [0u16; MOST_PARTS];
     let mut i = 2;
     while i < list.len() {
         let a = Word(list[i]).first() as usize;

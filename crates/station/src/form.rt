@@ -1,6 +1,8 @@
 // Checks 1 to 4: the count of words, their kinds, and the head's n and m.
 use lists::Found;
 use words::Word;
+use words::limits::LEAST_PARTS;
+use words::limits::MOST_PARTS;
 ghost use mathlib.Core.Path.{_≡_};
 ghost use Prim.Native.Nat.{_<_};
 ghost use lib.ListN.{length};
@@ -75,10 +77,10 @@ pub fn wrong_parts(list: &[u32]) -> Found
     ensures { λ r. ⌜ r ≡ check4 (now (list .entry)) ⌝ }
 {
     let n = Word(list[0]).parts() as usize;
-    if n < 3 {
+    if n < LEAST_PARTS {
         return Found::At(n);
     }
-    if 256 < n {
+    if MOST_PARTS < n {
         return Found::At(n);
     }
     Found::Nothing

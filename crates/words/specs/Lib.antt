@@ -1,2 +1,3 @@
--- Document 01, 'The words'. Assumes nothing.
+-- Document 01, 'The words', and its limits. Assumes nothing.
 pub mod Words
+pub mod Limits

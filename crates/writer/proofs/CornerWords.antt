@@ -11,7 +11,7 @@ use borrow.Author.Tests.{ne-eqb}
 use Rattle.lists.specs.Select.{oneIf, consIf}
 use Rattle.lists.specs.Stores.{Stored}
 use Rattle.lists.proofs.Tests.{oneIf-le}
-use Rattle.lists.proofs.Stores.{stored-none, stored-append, stored-as}
+use Rattle.lists.proofs.Stores.{stored-none, stored-append, stored-as, stored-kept}
 use Rattle.words.specs.Words.{cornerWord, sheetCableWord}
 use Rattle.drawing.specs.Spots.{Spot}
 use Rattle.drawing.specs.Drawing.{Route}
@@ -101,9 +101,10 @@ module _ (c : Course) where
 
 -- Words stored
 
--- the place behind a word that was stored if it was to be
-pub stored-if : {l m : List ℕ} {at i : ℕ} (b : Bool) (w : ℕ) → Stored l at (consIf b w []) m i → i ≡ at + oneIf b
-stored-if b w S = omega (arith, S .place, length-if b w [])
+-- the room that is left, once a word is stored if it was to be
+pub room-left :
+    {l m : List ℕ} {at i : ℕ} (b : Bool) (w rest : ℕ) → Stored l at (consIf b w []) m i → at + (oneIf b + rest) ≤ length l → i + rest ≤ length m
+room-left b w rest S h = omega (arith, S .place, length-if b w [], stored-kept S)
 
 pub stored-taken : {l m : List ℕ} {at i v : ℕ} (b : Bool) (w : ℕ) → b ≡ true → v ≡ w → Stored l at (v ∷ []) m i → Stored l at (consIf b w []) m i
 stored-taken b w e f S = stored-as (ap (λ (z : ℕ). z ∷ []) f ∙ ap (λ (t : Bool). consIf t w []) (sym e)) S

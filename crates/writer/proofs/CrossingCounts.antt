@@ -1,11 +1,13 @@
 -- The crossings of a drawing's cables from a line on, one cable at a time. Assumes nothing.
 use Prim.Native.Nat.{ℕ, _+_, _<_, _≤_}
+use native.Mathlib.Omega.{arith}
 use native.Mathlib.Numerals.{add-one}
 use mathlib.Core.Path.{_≡_, refl, ap}
 use mathlib.Core.Bool.{Bool}
-use lib.ListN.{length, drop, drop-of-length-le}
+use lib.ListN.{length, drop, length-drop, drop-of-length-le}
 use lib.Seq.{drop-cons}
 use Rattle.lists.specs.Select.{count, oneIf}
+use Rattle.lists.proofs.Sums.{count-length}
 use Rattle.drawing.specs.Drawing.{Route, noRoute, Drawing, routeAt, crossPair, crossingsOf, crossings}
 
 module _ (d : Drawing) where
@@ -19,6 +21,10 @@ module _ (d : Drawing) where
     pub count-end : (j : ℕ) → length (d .routes) ≤ j → count p (drop j (d .routes)) ≡ 0
     unfolding count
     count-end j h = ap (count p) (drop-of-length-le (d .routes) h)
+
+  -- a cable crosses at most as many as there are
+  pub crossings-few : (i r : ℕ) → r ≡ count (crossPair d (routeAt d i)) (drop (i + 1) (d .routes)) → r ≤ length (d .routes)
+  crossings-few i r e = omega (arith, e, count-length (crossPair d (routeAt d i)) (drop (i + 1) (d .routes)), length-drop (i + 1) (d .routes))
 
   pub crossings-next :
       (i : ℕ) → i < length (d .routes)

@@ -6,6 +6,7 @@ use mathlib.Core.Bool.{Bool, not, _&&_, _||_}
 use mathlib.Core.List.{List, map}
 use lib.ListN.{length, getD, length-map, List·getD-map}
 use lib.Seq.{length-take-le, getD-take}
+use Rattle.words.specs.Limits.{mostCables}
 use Rattle.words.specs.declared.Rank.{Rank}
 use Rattle.order.specs.declared.Ranking.{Ranking}
 use Rattle.order.specs.Graph.{StGraph, size, lower, upper, Ranked}
@@ -37,7 +38,7 @@ courseAt l i = getD (l .courses) i noCourse
 
 -- What the code knows of a layout that it is handed, by its type: the array of lower ranks has its length.
 abbrev pub Room : Layout → Type 0
-Room l = length (map (λ (v : ℕ). v) (l .graph .lower)) ≡ 512
+Room l = length (map (λ (v : ℕ). v) (l .graph .lower)) ≡ mostCables
 
 module _ (l : Layout) (L : Laid l) where
   abbrev G : StGraph

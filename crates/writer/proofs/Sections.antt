@@ -1,5 +1,5 @@
--- The words of a drawing's parts from a part on and of its cables from a line on, one at a time, and which words its parts' numbers leave as they are.
--- Assumes nothing.
+-- A drawing's words section by section: those of the parts from a part on and of the cables from a line on, one at a time, and all sections stored
+-- under other numbers of the parts, which change neither the head nor the cables. Assumes nothing.
 use Prim.Native.Nat.{ℕ, _+_, _<_, _≤_}
 use native.Mathlib.Omega.{arith}
 use native.Mathlib.Numerals.{add-one}
@@ -26,11 +26,11 @@ unfolding routesWords
 kept-words f h line [] = refl
 kept-words f h line (r ∷ rs) = ap₂ (λ (a b : List ℕ). a ++ b) (route-words line (f r) r (h r)) (kept-words f h (line + 1) rs)
 
-pub cables-renumbered : (names : List ℕ) (d : Drawing) → cablesSection (renumbered names d) ≡ cablesSection d
+cables-renumbered : (names : List ℕ) (d : Drawing) → cablesSection (renumbered names d) ≡ cablesSection d
 unfolding cablesSection renumbered
 cables-renumbered names d = kept-words _ (λ r. refl) 0 (d .routes)
 
-pub head-renumbered : (names : List ℕ) (d : Drawing) → headSection (renumbered names d) ≡ headSection d
+head-renumbered : (names : List ℕ) (d : Drawing) → headSection (renumbered names d) ≡ headSection d
 unfolding headSection renumbered
 head-renumbered names d = refl
 
@@ -43,10 +43,6 @@ module _ (d : Drawing) where
   abbrev pub partsFrom : ℕ → List ℕ
   partsFrom p = map partSpotWord (drop p (d .parts))
 
-  pub parts-all : partsFrom 0 ≡ partsSection d
-  unfolding partsSection
-  parts-all = refl
-
   pub parts-next : (p : ℕ) → p < length (d .parts) → partsFrom p ≡ partSpotWord (spotOf d p) ∷ partsFrom (p + 1)
   unfolding spotOf
   parts-next p h = rw (add-one, drop-cons (d .parts) p origin h) refl
@@ -57,10 +53,6 @@ module _ (d : Drawing) where
   -- the cables from a line on
   abbrev pub cablesFrom : ℕ → List ℕ
   cablesFrom line = routesWords line (drop line (d .routes))
-
-  pub cables-all : cablesFrom 0 ≡ cablesSection d
-  unfolding cablesSection
-  cables-all = refl
 
   pub cables-next : (line : ℕ) → line < length (d .routes) → cablesFrom line ≡ routeWords line (routeAt d line) ++ cablesFrom (line + 1)
   unfolding routesWords routeAt
@@ -85,7 +77,6 @@ module _ (d : Drawing) where
         parts-length d,
       )
 
--- head and cables are written as they are under any numbers of the parts
 pub sections-stored :
     (names : List ℕ) (d : Drawing) {l₀ l₁ l₂ l₃ head : List ℕ} {a₁ a₂ a₃ : ℕ} → head ≡ headSection d
     → Stored l₀ 0 head l₁ a₁ → Stored l₁ a₁ (partsSection (renumbered names d)) l₂ a₂ → Stored l₂ a₂ (cablesSection d) l₃ a₃

@@ -1,17 +1,16 @@
 -- The first of checks 1 to 10 that applies is the answer; a list that passes them is drawn. Assumes nothing.
-use mathlib.Core.Path.{_≡_, sym, ap, _∙_}
+use mathlib.Core.Path.{_≡_, sym, _∙_}
 use borrow.Author.Needs.{needs}
 use Rattle.lists.specs.declared.Found.the-variants.{Nothing}
 use Rattle.station.specs.Station.{stationOf}
-use Rattle.station.specs.Checks.{passed, verdict8}
-use Rattle.station.specs.Answer.{verdictOf}
+use Rattle.station.specs.Checks.{Clear, listChecks}
 use Rattle.order.specs.Reach.{check9, check10}
-use Rattle.hookup.proofs.Answers.{verdict-8, verdict-9, verdict-10, verdict-none, drew-refused}
+use Rattle.hookup.proofs.Answers.{refused-8, refused-9, refused-10, all-clear, drew-refused}
 use Rattle.hookup.proofs.draw.Statement.{statement}
 use Rattle.hookup.proofs.draw.Tie as tie
 
-pass-8 : (c : tie.After-enum-told) → verdict8 (c .before .before .before .before .before .args .list .now) ≡ passed
-pass-8 c = sym (c .before .before .check-list .ensures) ∙ ap verdictOf (c .enum-told .given .1)
+pass-8 : (c : tie.After-enum-told) → Clear listChecks (c .before .before .before .before .before .args .list .now)
+pass-8 c = sym (c .before .before .check-list .ensures) ∙ c .enum-told .given .1
 
 none-9 : (c : tie.After-enum-told2) → check9 (stationOf (c .before .before .before .before .before .before .before .before .args .list .now)) ≡ Nothing
 none-9 c = sym (c .before .before .check9 .ensures) ∙ c .enum-told2 .given .1
@@ -27,7 +26,7 @@ enum-known-check c = search needs
 
 returns : tie.Need-returns
 returns c =
-    drew-refused _ _ _ _ (verdict-8 _ _ _ (sym (c .before .before .before .check-list .ensures) ∙ ap verdictOf (c .before .check .given .1)))
+    drew-refused _ _ _ _ (refused-8 _ _ _ (sym (c .before .before .before .check-list .ensures) ∙ c .before .check .given .1))
 
 enum-told : tie.Need-enum-told
 enum-told c = search needs
@@ -41,7 +40,7 @@ enum-known-place c = search needs
 returns-2 : tie.Need-returns-2
 returns-2 c =
     let k = c .before .before .before in
-    drew-refused _ _ _ _ (verdict-9 _ _ (pass-8 (k .before)) (sym (k .check9 .ensures) ∙ c .before .place .given .1))
+    drew-refused _ _ _ _ (refused-9 _ (pass-8 (k .before)) _ (sym (k .check9 .ensures) ∙ c .before .place .given .1))
 
 enum-told-2 : tie.Need-enum-told-2
 enum-told-2 c = search needs
@@ -56,7 +55,7 @@ returns-3 : tie.Need-returns-3
 returns-3 c =
     let k = c .before .before .before in
     drew-refused _ _ _ _
-    (verdict-10 _ _ (pass-8 (k .before .before .before .before)) (none-9 (k .before)) (sym (k .check10 .ensures) ∙ c .before .place2 .given .1))
+    (refused-10 _ (pass-8 (k .before .before .before .before)) (none-9 (k .before)) _ (sym (k .check10 .ensures) ∙ c .before .place2 .given .1))
 
 enum-told-3 : tie.Need-enum-told-3
 enum-told-3 c = search needs
@@ -64,7 +63,7 @@ enum-told-3 c = search needs
 draw-station-requires : tie.Need-draw-station-requires
 draw-station-requires c κs =
     let k = c .before in
-    verdict-none _ (pass-8 (k .before .before .before .before .before .before)) (none-9 (k .before .before .before)) (none-10 k)
+    all-clear _ (pass-8 (k .before .before .before .before .before .before)) (none-9 (k .before .before .before)) (none-10 k)
 
 same-length : tie.Need-same-length
 same-length c = search needs

@@ -4,11 +4,12 @@ use native.Mathlib.Omega.{arith}
 use lib.ListN.{length}
 use borrow.Author.Needs.{needs}
 use denote.Ref.{now}
+use Rattle.words.specs.Limits.{mostCables}
 use Rattle.lists.proofs.Fill.{Filled, filled-more}
 use Rattle.station.specs.Station.{stationOf}
 use Rattle.order.specs.Graph.{lower, upper}
 use Rattle.order.specs.Ends.{graphOf}
-use Rattle.order.proofs.Passed.{cables-most}
+use Rattle.order.proofs.Passed.{lines-most}
 use Rattle.order.proofs.Drawables.{drawable10}
 use Rattle.order.proofs.LineRanks.{blank, length-blank, filled-blank, line-word, one-below, other-below, lower-line, upper-line, lines-ranked}
 use Rattle.order.proofs.rank_cables.Statement.{statement}
@@ -25,8 +26,8 @@ module _ (c : tie.In-loop Inv-loop μ-loop) where
   line : c .before .loop .i < length (stationOf (now (c .before .before .before .before .before .args .list)) .cables)
   line = omega (arith, c .loop-test .taken, c .before .before .before .cable-count .ensures)
 
-  room : c .before .loop .i < 512
-  room = omega (arith, line, cables-most _ (c .before .before .before .before .before .pre .0))
+  room : c .before .loop .i < mostCables
+  room = omega (arith, line, lines-most _ (c .before .before .before .before .before .pre .0))
 
   place : c .before .loop .i < length blank
   place = omega (arith, room, length-blank)
@@ -94,7 +95,7 @@ returns c =
     let s = c .before .before .before .before .before .before in
     let m = c .before .before .before .before .cable-count .ensures in (
       lines-ranked _ (s .pre .0) (c .part-count .ensures) m (c .before .loop-test .left) (l .inv .1) (l .inv .2),
-      omega (arith, m, cables-most _ (s .pre .0)),
+      omega (arith, m, lines-most _ (s .pre .0)),
     )
 
 pub rank-cables-spec : {M : Type 1} → statement M

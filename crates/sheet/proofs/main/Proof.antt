@@ -13,23 +13,20 @@ slice-aggregate-read-full c = search needs
 read-full-requires : tie.Need-read-full-requires
 read-full-requires c κs = search needs
 
-array-share-prefix-bytes : tie.Need-array-share-prefix-bytes
-array-share-prefix-bytes c = search needs
+slice-aggregate-print-read : tie.Need-slice-aggregate-print-read
+slice-aggregate-print-read c = search needs
 
-slice-aggregate-print-sheet : tie.Need-slice-aggregate-print-sheet
-slice-aggregate-print-sheet c = search needs
+slice-aggregate-print-read-2 : tie.Need-slice-aggregate-print-read-2
+slice-aggregate-print-read-2 c = search needs
 
-slice-aggregate-print-sheet-2 : tie.Need-slice-aggregate-print-sheet-2
-slice-aggregate-print-sheet-2 c = search needs
-
-print-sheet-requires : tie.Need-print-sheet-requires
-print-sheet-requires c κs = search needs
+print-read-requires : tie.Need-print-read-requires
+print-read-requires c κs = search needs
 
 array-share-prefix-out : tie.Need-array-share-prefix-out
-array-share-prefix-out c = omega (arith, simp length-append at (ap length (c .before .print-sheet .ensures .1)))
+array-share-prefix-out c = omega (arith, simp length-append at (ap length (c .before .print-read .ensures .1)))
 
 slice-aggregate-write-all : tie.Need-slice-aggregate-write-all
-slice-aggregate-write-all c = sym (length-take-le (c .before .before .print-sheet .result) (c .before .before .print-sheet .last .1 .0) (array-share-prefix-out (c .before)))
+slice-aggregate-write-all c = sym (length-take-le (c .before .before .print-read .result) (c .before .before .print-read .last .1 .1 .0) (array-share-prefix-out (c .before)))
 
 write-all-requires : tie.Need-write-all-requires
 write-all-requires c κs = search needs
@@ -43,10 +40,9 @@ main-spec =
     (tie.spec
     slice-aggregate-read-full
     read-full-requires
-    array-share-prefix-bytes
-    slice-aggregate-print-sheet
-    slice-aggregate-print-sheet-2
-    print-sheet-requires
+    slice-aggregate-print-read
+    slice-aggregate-print-read-2
+    print-read-requires
     array-share-prefix-out
     slice-aggregate-write-all
     write-all-requires

@@ -1,7 +1,7 @@
 -- The course is read off its cable, the columns of the parts and the ends. Assumes nothing.
 use borrow.Author.Needs.{needs}
 use mathlib.Core.Path.{refl}
-use Rattle.layout.proofs.Lanes.{course-read}
+use Rattle.layout.proofs.Lanes.{course-made}
 use Rattle.layout.proofs.courses.course_of.Statement.{statement}
 use Rattle.layout.proofs.courses.course_of.Tie as tie
 
@@ -32,7 +32,7 @@ part-spot-requires-2 c κs = search needs
 returns : tie.Need-returns
 returns c =
     let s = c .before .before .before .before .before .before .before .before .before .before .before in
-    course-read (s .args .parts .now) _ refl (c .before .before .before .before .before .before .before .before .before .part-spot .ensures)
+    course-made (s .args .ends) (s .args .cable) (s .args .parts .now) (c .before .before .before .before .before .before .before .before .before .part-spot .ensures)
     (c .before .before .before .before .before .pick .ensures) refl (c .before .pick2 .ensures) (c .part-spot2 .ensures)
 
 pub course-of-spec : {M : Type 1} → statement M

@@ -3,6 +3,7 @@ use native.Mathlib.Omega.{arith}
 use Prim.Native.Nat.{ℕ, _<_, _≤_, _-_}
 use mathlib.Core.Path.{_≡_, _∙_}
 use lib.ListN.{length, getD, take, length-replicate, length-set}
+use Rattle.words.specs.Limits.{mostCables}
 use Rattle.lists.proofs.Kept.{below-set}
 use Rattle.order.specs.Arrays.{graphIn}
 use Rattle.layout.specs.Points.{courseOf}
@@ -15,7 +16,7 @@ use Rattle.layout.proofs.courses.courses_of.Tie as tie
 
 abbrev Inv-loop : tie.InvT-loop
 Inv-loop ends lower upper cables parts n m courses₀ i₀ courses i =
-    (i ≤ m) × (length courses ≡ 512) × ((j : ℕ) → j < i → courseIn (getD courses j noCourse) ≡ courseOf (graphOf n (take m lower) (take m upper)) j)
+    (i ≤ m) × (length courses ≡ mostCables) × ((j : ℕ) → j < i → courseIn (getD courses j noCourse) ≡ courseOf (graphOf n (take m lower) (take m upper)) j)
 
 abbrev μ-loop : tie.MeasureT-loop
 μ-loop ends lower upper cables parts n m courses₀ i₀ courses i = m - i
@@ -24,7 +25,7 @@ no-course-requires : tie.Need-no-course-requires Inv-loop μ-loop
 no-course-requires c κs = tt
 
 loop-holds : tie.Need-loop-holds Inv-loop μ-loop
-loop-holds c = (omega arith, length-replicate 512 (c .no-course .result), λ j h. absurd (omega arith))
+loop-holds c = (omega arith, length-replicate mostCables (c .no-course .result), λ j h. absurd (omega arith))
 
 array-read-cable-of : tie.Need-array-read-cable-of Inv-loop μ-loop
 array-read-cable-of c = omega arith

@@ -1,50 +1,66 @@
 -- `order::adjacency::join` meets its contract. Assumes nothing.
-use Rattle.order.proofs.Rows.{appended}
 use borrow.Author.Needs.{needs}
+use Rattle.order.proofs.AdjacencyTable.{appended}
 use Rattle.order.proofs.adjacency.join.Statement.{statement}
 use Rattle.order.proofs.adjacency.join.Tie as tie
+
+cast-i : tie.Need-cast-i
+cast-i c = search needs
+
+add-d : tie.Need-add-d
+add-d c = search needs
+
+mul-d : tie.Need-mul-d
+mul-d c = search needs
 
 element-copy-out-d : tie.Need-element-copy-out-d
 element-copy-out-d c = search needs
 
-cast-d : tie.Need-cast-d
-cast-d c = search needs
+mul-table : tie.Need-mul-table
+mul-table c = search needs
 
-mul-next : tie.Need-mul-next
-mul-next c = search needs
+cast-table : tie.Need-cast-table
+cast-table c = search needs
 
-add-next : tie.Need-add-next
-add-next c = search needs
+add-table : tie.Need-add-table
+add-table c = search needs
 
-mul-next-2 : tie.Need-mul-next-2
-mul-next-2 c = search needs
+mul-table-2 : tie.Need-mul-table-2
+mul-table-2 c = search needs
 
-element-write-next : tie.Need-element-write-next
-element-write-next c = search needs
+element-write-table : tie.Need-element-write-table
+element-write-table c = search needs
 
-add-degree : tie.Need-add-degree
-add-degree c = search needs
+add-table-2 : tie.Need-add-table-2
+add-table-2 c = search needs
 
-cast-degree : tie.Need-cast-degree
-cast-degree c = search needs
+add-table-3 : tie.Need-add-table-3
+add-table-3 c = search needs
 
-element-write-degree : tie.Need-element-write-degree
-element-write-degree c = search needs
+mul-table-3 : tie.Need-mul-table-3
+mul-table-3 c = search needs
+
+element-write-table-2 : tie.Need-element-write-table-2
+element-write-table-2 c = search needs
 
 returns : tie.Need-returns
-returns c = appended _ _ _ _ (c .before .pre .0) (c .before .pre .1 .0) (c .before .pre .1 .1)
+returns c = search (appended, needs)
 
 pub join-spec : {M : Type 1} → statement M
 join-spec =
     tie.close
     (tie.spec
+    cast-i
+    add-d
+    mul-d
     element-copy-out-d
-    cast-d
-    mul-next
-    add-next
-    mul-next-2
-    element-write-next
-    add-degree
-    cast-degree
-    element-write-degree
+    mul-table
+    cast-table
+    add-table
+    mul-table-2
+    element-write-table
+    add-table-2
+    add-table-3
+    mul-table-3
+    element-write-table-2
     returns)

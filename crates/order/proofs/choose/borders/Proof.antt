@@ -1,25 +1,34 @@
 -- `order::choose::borders` meets its contract. The loop's invariant is `Bordering`. Assumes nothing.
-use Prim.Native.Nat.{_+_, _*_, _-_}
-use native.Mathlib.Omega.{arith}
+use Prim.Native.Nat.{_-_}
 use borrow.Author.Needs.{needs}
-use Rattle.order.proofs.Choices.{Bordering, bordering-start, bordering-here, bordering-next, bordering-end}
+use Rattle.order.proofs.AdjacencyTable.{entry-fits}
+use Rattle.order.proofs.Choices.{Bordering, bordering-start, neighbour-below, neighbour-fits, bordering-here, bordering-next, bordering-end}
 use Rattle.order.proofs.choose.borders.Statement.{statement}
 use Rattle.order.proofs.choose.borders.Tie as tie
 
 abbrev Inv-loop : tie.InvT-loop
-Inv-loop next degree unranked w d j₀ j = Bordering next degree unranked w d j
+Inv-loop table unranked i d j₀ j = Bordering table unranked i d j
 
 abbrev μ-loop : tie.MeasureT-loop
-μ-loop next degree unranked w d j₀ j = d - j
+μ-loop table unranked i d j₀ j = d - j
+
+cast-i : tie.Need-cast-i Inv-loop μ-loop
+cast-i c = search needs
+
+add-d : tie.Need-add-d Inv-loop μ-loop
+add-d c = search needs
+
+mul-d : tie.Need-mul-d Inv-loop μ-loop
+mul-d c = search needs
 
 element-copy-out-d : tie.Need-element-copy-out-d Inv-loop μ-loop
 element-copy-out-d c = search needs
 
 cast-d : tie.Need-cast-d Inv-loop μ-loop
-cast-d c = omega (arith, c .before .pre .0 .few (c .before .args .w))
+cast-d c = search (entry-fits, needs)
 
 loop-holds : tie.Need-loop-holds Inv-loop μ-loop
-loop-holds c = bordering-start (c .before .pre .0)
+loop-holds c = search (bordering-start, needs)
 
 mul-q : tie.Need-mul-q Inv-loop μ-loop
 mul-q c = search needs
@@ -34,13 +43,13 @@ element-copy-out-q : tie.Need-element-copy-out-q Inv-loop μ-loop
 element-copy-out-q c = search needs
 
 cast-q : tie.Need-cast-q Inv-loop μ-loop
-cast-q c = omega (arith, c .before .before .before .before .pre .1 .1 (4 * c .before .before .before .before .args .w + c .before .before .loop .j))
+cast-q c = record { fits = search neighbour-fits }
 
 element-copy-out-if1 : tie.Need-element-copy-out-if1 Inv-loop μ-loop
-element-copy-out-if1 c = c .before .before .before .before .pre .1 .1 _
+element-copy-out-if1 c = search (neighbour-below, needs)
 
 returns : tie.Need-returns Inv-loop μ-loop
-returns c = bordering-here (c .before .before .before .before .before .before .pre .0) (c .before .before .before .before .before .before .pre .1 .0) (c .before .before .before .before .loop .inv) (omega arith) (c .if1 .taken)
+returns c = search (bordering-here, needs)
 
 add-j : tie.Need-add-j Inv-loop μ-loop
 add-j c = search needs
@@ -49,10 +58,10 @@ loop-less : tie.Need-loop-less Inv-loop μ-loop
 loop-less c = search needs
 
 loop-again : tie.Need-loop-again Inv-loop μ-loop
-loop-again c = bordering-next (c .before .before .before .before .before .before .pre .0) (c .before .before .before .before .before .before .pre .1 .0) (c .before .before .before .before .loop .inv) (omega arith) (c .if1 .left)
+loop-again c = search (bordering-next, needs)
 
 returns-2 : tie.Need-returns-2 Inv-loop μ-loop
-returns-2 c = bordering-end (c .before .before .before .pre .0) (c .before .before .before .pre .1 .0) (c .before .loop .inv) (omega arith)
+returns-2 c = search (bordering-end, needs)
 
 pub borders-spec : {M : Type 1} → statement M
 borders-spec =
@@ -60,6 +69,9 @@ borders-spec =
     (tie.spec
     Inv-loop
     μ-loop
+    cast-i
+    add-d
+    mul-d
     element-copy-out-d
     cast-d
     loop-holds

@@ -1,32 +1,35 @@
--- `order::choose::choose` meets its contract. The invariant: no part before w is eligible, and what is noted is right. Assumes nothing.
-use Prim.Native.Nat.{ℕ, _-_, _<_, _≤_}
-use native.Mathlib.Omega.{arith}
-use mathlib.Core.Path.{_≡_, sym, _∙_}
-use mathlib.Core.Bool.{false}
-use borrow.Author.Count.{below-none, below-more}
+-- `order::choose::choose` meets its contract. The invariant: no part before w is eligible, and the witnesses are right. Assumes nothing.
+use Prim.Native.Nat.{_-_}
 use borrow.Author.Needs.{needs}
-use Rattle.order.specs.Tables.{Noted, eligible}
-use Rattle.order.proofs.Choices.{chosen-at, chosen-none}
+use Rattle.lists.proofs.Seeking.{Seeking, seeking-start}
+use Rattle.order.specs.Tables.{Witnesses, eligible}
+use Rattle.order.proofs.PartsByRank.{chosen-next, chosen-at, chosen-none}
 use Rattle.order.proofs.choose.choose.Statement.{statement}
 use Rattle.order.proofs.choose.choose.Tie as tie
 
 abbrev Inv-loop : tie.InvT-loop
-Inv-loop list next degree unranked noted₀ n w₀ noted w = (w ≤ n) × Noted list unranked noted × ((j : ℕ) → j < w → eligible list unranked j ≡ false)
+Inv-loop list table unranked witness₀ n w₀ witness w = Seeking (eligible list unranked) n w × Witnesses list unranked witness
 
 abbrev μ-loop : tie.MeasureT-loop
-μ-loop list next degree unranked noted₀ n w₀ noted w = n - w
+μ-loop list table unranked witness₀ n w₀ witness w = n - w
 
 part-count-requires : tie.Need-part-count-requires Inv-loop μ-loop
-part-count-requires c κs = c .before .pre .0 .drawable .words
+part-count-requires c κs = search needs
 
 loop-holds : tie.Need-loop-holds Inv-loop μ-loop
-loop-holds c = (search needs, c .before .before .pre .1, below-none _)
+loop-holds c = (seeking-start _ _, search needs)
+
+cast-t10 : tie.Need-cast-t10 Inv-loop μ-loop
+cast-t10 c = search needs
 
 is-next-requires : tie.Need-is-next-requires Inv-loop μ-loop
-is-next-requires c κs = (c .before .before .before .before .before .pre .0, (c .before .before .loop .inv .1, omega (arith, c .before .before .before .part-count .ensures)))
+is-next-requires c κs = (search, (search, search needs))
+
+cast-t12 : tie.Need-cast-t12 Inv-loop μ-loop
+cast-t12 c = search needs
 
 returns : tie.Need-returns Inv-loop μ-loop
-returns c = (chosen-at _ _ (c .before .before .before .before .before .part-count .ensures) (omega arith) (sym (c .before .is-next .ensures .0) ∙ c .if1 .taken) (c .before .before .before .before .loop .inv .2), c .before .is-next .ensures .1)
+returns c = (search (chosen-at, needs), search needs)
 
 add-w : tie.Need-add-w Inv-loop μ-loop
 add-w c = search needs
@@ -35,16 +38,13 @@ loop-less : tie.Need-loop-less Inv-loop μ-loop
 loop-less c = search needs
 
 loop-again : tie.Need-loop-again Inv-loop μ-loop
-loop-again c = (search needs, c .before .is-next .ensures .1, below-more _ _ (c .before .before .before .before .loop .inv .2) (sym (c .before .is-next .ensures .0) ∙ c .if1 .left))
+loop-again c = (search (chosen-next, needs), search needs)
 
 analyser-requires : tie.Need-analyser-requires Inv-loop μ-loop
-analyser-requires c κs = c .before .before .before .before .pre .0 .drawable .words
-
-cast-result : tie.Need-cast-result Inv-loop μ-loop
-cast-result c = search needs
+analyser-requires c κs = search needs
 
 returns-2 : tie.Need-returns-2 Inv-loop μ-loop
-returns-2 c = (chosen-none _ _ (c .before .before .before .before .part-count .ensures) (omega arith) (c .before .analyser .ensures) (c .before .before .before .loop .inv .2), c .before .before .before .loop .inv .1)
+returns-2 c = (search (chosen-none, needs), search needs)
 
 pub choose-spec : {M : Type 1} → statement M
 choose-spec =
@@ -54,11 +54,12 @@ choose-spec =
     μ-loop
     part-count-requires
     loop-holds
+    cast-t10
     is-next-requires
+    cast-t12
     returns
     add-w
     loop-less
     loop-again
     analyser-requires
-    cast-result
     returns-2)

@@ -1,57 +1,57 @@
 -- `order::choose::order_parts` meets its contract. The loop's invariant is `Ordering`: the parts ranked so far, and the rest of the order from the unranked parts. Assumes nothing.
 use Prim.Native.Nat.{_-_}
-use native.Mathlib.Omega.{arith}
-use Rattle.order.proofs.Choices.{Ordering, ordering-start, ordering-next, ordering-end, chosen-inside}
+use borrow.Author.Needs.{needs}
+use Rattle.order.proofs.PartsByRank.{Ordering, ordering-start, ordering-next, ordering-end, chosen-below}
 use Rattle.order.proofs.choose.order_parts.Statement.{statement}
 use Rattle.order.proofs.choose.order_parts.Tie as tie
 
 abbrev Inv-loop : tie.InvT-loop
-Inv-loop list next degree n s parts₀ noted₀ unranked₀ k₀ parts noted unranked k = Ordering list parts noted unranked k
+Inv-loop list table n s parts₀ witness₀ unranked₀ k₀ parts witness unranked k = Ordering list parts witness unranked k
 
 abbrev μ-loop : tie.MeasureT-loop
-μ-loop list next degree n s parts₀ noted₀ unranked₀ k₀ parts noted unranked k = n - k
+μ-loop list table n s parts₀ witness₀ unranked₀ k₀ parts witness unranked k = n - k
 
 part-count-requires : tie.Need-part-count-requires Inv-loop μ-loop
-part-count-requires c κs = c .before .pre .drawable .words
+part-count-requires c κs = search needs
 
 source-requires : tie.Need-source-requires Inv-loop μ-loop
-source-requires c κs = c .before .before .pre .drawable .words
+source-requires c κs = search needs
 
 cast-unranked : tie.Need-cast-unranked Inv-loop μ-loop
-cast-unranked c = omega (arith, c .source .ensures, c .before .before .before .pre .drawable .source, c .before .before .before .pre .drawable .most)
+cast-unranked c = search needs
 
 array-write-unranked : tie.Need-array-write-unranked Inv-loop μ-loop
-array-write-unranked c = omega (arith, c .source .ensures, c .before .before .before .pre .drawable .source, c .before .before .before .pre .drawable .most)
+array-write-unranked c = search needs
 
 loop-holds : tie.Need-loop-holds Inv-loop μ-loop
-loop-holds c = ordering-start (c .before .before .before .pre .drawable) (c .source .ensures)
+loop-holds c = search (ordering-start, needs)
 
 choose-requires : tie.Need-choose-requires Inv-loop μ-loop
-choose-requires c κs = (c .before .before .before .before .before .before .before .pre, c .before .before .before .loop .inv .notes)
-
-cast-parts : tie.Need-cast-parts Inv-loop μ-loop
-cast-parts c = omega (arith, chosen-inside (c .before .before .before .before .before .before .before .before .pre .drawable) (c .before .before .before .before .loop .unranked), c .choose .ensures .0, c .before .before .before .before .before .before .before .before .pre .drawable .most)
+choose-requires c κs = search needs
 
 mul-parts : tie.Need-mul-parts Inv-loop μ-loop
-mul-parts c = omega (arith, c .before .before .before .before .before .before .part-count .ensures, c .before .before .before .before .before .before .before .before .pre .drawable .most)
+mul-parts c = search needs
 
 array-write-parts : tie.Need-array-write-parts Inv-loop μ-loop
-array-write-parts c = omega (arith, c .before .before .before .before .before .before .part-count .ensures, c .before .before .before .before .before .before .before .before .pre .drawable .most)
+array-write-parts c = search needs
+
+cast-unranked-2 : tie.Need-cast-unranked-2 Inv-loop μ-loop
+cast-unranked-2 c = search needs
 
 array-write-unranked-2 : tie.Need-array-write-unranked-2 Inv-loop μ-loop
-array-write-unranked-2 c = omega (arith, chosen-inside (c .before .before .before .before .before .before .before .before .pre .drawable) (c .before .before .before .before .loop .unranked), c .choose .ensures .0, c .before .before .before .before .before .before .before .before .pre .drawable .most)
+array-write-unranked-2 c = search (chosen-below, needs)
 
 add-k : tie.Need-add-k Inv-loop μ-loop
-add-k c = omega (arith, c .before .before .before .before .before .before .part-count .ensures, c .before .before .before .before .before .before .before .before .pre .drawable .most)
+add-k c = search needs
 
 loop-less : tie.Need-loop-less Inv-loop μ-loop
-loop-less c = omega arith
+loop-less c = search needs
 
 loop-again : tie.Need-loop-again Inv-loop μ-loop
-loop-again c = ordering-next (c .before .before .before .before .before .before .before .before .pre .drawable) (c .before .before .before .before .loop .inv) (omega (arith, c .before .before .before .before .before .before .part-count .ensures)) (c .choose .ensures .0) (c .choose .ensures .1)
+loop-again c = search (ordering-next, needs)
 
 returns : tie.Need-returns Inv-loop μ-loop
-returns c = (ordering-end (c .before .before .before .before .before .pre .drawable) (c .before .loop .inv) (omega (arith, c .before .before .before .part-count .ensures)), c .before .loop .inv .inside)
+returns c = (search (ordering-end, needs), search needs)
 
 pub order-parts-spec : {M : Type 1} → statement M
 order-parts-spec =
@@ -65,9 +65,9 @@ order-parts-spec =
     array-write-unranked
     loop-holds
     choose-requires
-    cast-parts
     mul-parts
     array-write-parts
+    cast-unranked-2
     array-write-unranked-2
     add-k
     loop-less

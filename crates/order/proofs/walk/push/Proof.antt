@@ -1,24 +1,33 @@
 -- `order::walk::push` meets its contract. The loop's invariant is `Pushing`. Assumes nothing.
-use native.Mathlib.Omega.{arith}
 use borrow.Author.Needs.{needs}
+use Rattle.order.proofs.AdjacencyTable.{entry-fits}
 use Rattle.order.proofs.Walks.{Pushing, pushing-start, pushing-next, pushing-end}
 use Rattle.order.proofs.walk.push.Statement.{statement}
 use Rattle.order.proofs.walk.push.Tie as tie
 
 abbrev Inv-loop : tie.InvT-loop
-Inv-loop next degree p stack₀ top at₀ j₀ stack at j = Pushing next degree p stack₀ top stack at j
+Inv-loop table stack₀ top i at₀ j₀ stack at j = Pushing table i stack₀ top stack at j
 
 abbrev μ-loop : tie.MeasureT-loop
-μ-loop next degree p stack₀ top at₀ j₀ stack at j = j
+μ-loop table stack₀ top i at₀ j₀ stack at j = j
+
+cast-i : tie.Need-cast-i Inv-loop μ-loop
+cast-i c = search needs
+
+add-j : tie.Need-add-j Inv-loop μ-loop
+add-j c = search needs
+
+mul-j : tie.Need-mul-j Inv-loop μ-loop
+mul-j c = search needs
 
 element-copy-out-j : tie.Need-element-copy-out-j Inv-loop μ-loop
 element-copy-out-j c = search needs
 
 cast-j : tie.Need-cast-j Inv-loop μ-loop
-cast-j c = omega (arith, c .before .pre .0 .few (c .before .args .p))
+cast-j c = search (entry-fits, needs)
 
 loop-holds : tie.Need-loop-holds Inv-loop μ-loop
-loop-holds c = pushing-start (c .before .pre .0) (c .before .pre .1 .0) _ _
+loop-holds c = search (pushing-start, needs)
 
 sub-j : tie.Need-sub-j Inv-loop μ-loop
 sub-j c = search needs
@@ -48,12 +57,10 @@ loop-less : tie.Need-loop-less Inv-loop μ-loop
 loop-less c = search needs
 
 loop-again : tie.Need-loop-again Inv-loop μ-loop
-loop-again c = let pre : _ = c .before .before .before .before .pre in
-    pushing-next (pre .0) (pre .1 .0) (c .before .before .loop .inv) (omega arith) (omega arith)
+loop-again c = search (pushing-next, needs)
 
 returns : tie.Need-returns Inv-loop μ-loop
-returns c = let pre : _ = c .before .before .before .pre in
-    pushing-end (pre .0) (pre .1 .0) (c .before .loop .inv) (omega arith)
+returns c = search (pushing-end, needs)
 
 pub push-spec : {M : Type 1} → statement M
 push-spec =
@@ -61,6 +68,9 @@ push-spec =
     (tie.spec
     Inv-loop
     μ-loop
+    cast-i
+    add-j
+    mul-j
     element-copy-out-j
     cast-j
     loop-holds

@@ -13,11 +13,14 @@ mul-p c = search needs
 element-copy-out-p : tie.Need-element-copy-out-p
 element-copy-out-p c = search needs
 
-cast-p : tie.Need-cast-p
-cast-p c = search needs
+cast-if1 : tie.Need-cast-if1
+cast-if1 c = search needs
 
 element-copy-out-if1 : tie.Need-element-copy-out-if1
 element-copy-out-if1 c = search needs
+
+cast-left : tie.Need-cast-left
+cast-left c = search needs
 
 element-write-left : tie.Need-element-write-left
 element-write-left c = search needs
@@ -29,13 +32,13 @@ push-requires : tie.Need-push-requires
 push-requires c κs = search needs
 
 returns : tie.Need-returns
-returns c = stepped-left _ _ _ _ _ (c .before .before .if1 .taken) (c .push .ensures)
+returns c = search (stepped-left, needs)
 
 sub-result : tie.Need-sub-result
 sub-result c = search needs
 
 returns-2 : tie.Need-returns-2
-returns-2 c = stepped-gone _ _ _ _ _ (c .if1 .left)
+returns-2 c = search (stepped-gone, needs)
 
 pub step-spec : {M : Type 1} → statement M
 step-spec =
@@ -44,8 +47,9 @@ step-spec =
     sub-p
     mul-p
     element-copy-out-p
-    cast-p
+    cast-if1
     element-copy-out-if1
+    cast-left
     element-write-left
     sub-push
     push-requires

@@ -8,22 +8,23 @@ use lib.ListN.{getD}
 use lib.Dec.{ltb}
 use Rattle.lists.specs.Search.{seek}
 use Rattle.lists.proofs.Search.{seek-at, seek-next, seek-end}
+use Rattle.words.specs.Limits.{mostParts, mostDegree}
 use Rattle.station.specs.Station.{stationOf, degree}
 use Rattle.station.specs.Checks.{check8}
-use Rattle.station.proofs.Tests.{over-four, up-to-four}
-use Rattle.station.proofs.Each.{words-due, parts-between}
+use Rattle.station.proofs.Tests.{degree-over, degree-within}
+use Rattle.station.proofs.Each.{two-words, parts-between}
 use Rattle.station.proofs.Cables.{parts-are}
 use Rattle.station.proofs.degrees.crowded_part.Statement.{statement}
 use Rattle.station.proofs.degrees.crowded_part.Tie as tie
 
 abbrev Inv-loop : tie.InvT-loop
-Inv-loop list n counts p₀ p = (p ≤ n) × (n ≤ 256) × (check8 list ≡ seek (λ q. ltb 4 (degree (stationOf list .cables) q)) p (n - p))
+Inv-loop list n counts p₀ p = (p ≤ n) × (n ≤ mostParts) × (check8 list ≡ seek (λ q. ltb mostDegree (degree (stationOf list .cables) q)) p (n - p))
 
 abbrev μ-loop : tie.MeasureT-loop
 μ-loop list n counts p₀ p = n - p
 
 part-count-requires : tie.Need-part-count-requires Inv-loop μ-loop
-part-count-requires c κs = omega (arith, words-due _ (c .before .pre .0))
+part-count-requires c κs = two-words _ 6 (c .before .pre) (omega arith)
 
 cables-per-part-requires : tie.Need-cables-per-part-requires Inv-loop μ-loop
 cables-per-part-requires c κs = c .before .before .pre
@@ -32,7 +33,7 @@ loop-holds : tie.Need-loop-holds Inv-loop μ-loop
 unfolding check8
 loop-holds c = (
   omega arith,
-  omega (arith, parts-are (c .before .before .before .args .list .now), c .before .part-count .ensures, parts-between _ (c .before .before .before .pre .1) .1),
+  omega (arith, parts-are (c .before .before .before .args .list .now), c .before .part-count .ensures, parts-between _ 6 (c .before .before .before .pre) (omega arith) .1),
   rw (c .before .part-count .ensures, sub-zero),
 )
 
@@ -48,9 +49,12 @@ mul-if1 c = omega arith
 array-read-if1 : tie.Need-array-read-if1 Inv-loop μ-loop
 array-read-if1 c = omega arith
 
+cast-if1 : tie.Need-cast-if1 Inv-loop μ-loop
+cast-if1 c = search needs
+
 returns : tie.Need-returns Inv-loop μ-loop
 returns c =
-    sym (c .before .before .loop .inv .2 ∙ seek-at _ _ _ (omega arith) (over-four _ _ (counted (c .before)) (omega arith)))
+    sym (c .before .before .loop .inv .2 ∙ seek-at _ _ _ (omega arith) (degree-over _ _ (counted (c .before)) (omega arith)))
 
 add-p : tie.Need-add-p Inv-loop μ-loop
 add-p c = search needs
@@ -62,7 +66,7 @@ loop-again : tie.Need-loop-again Inv-loop μ-loop
 loop-again c = (
   omega arith,
   omega arith,
-  c .before .before .loop .inv .2 ∙ seek-next _ _ _ (omega arith) (up-to-four _ _ (counted (c .before)) (omega arith)),
+  c .before .before .loop .inv .2 ∙ seek-next _ _ _ (omega arith) (degree-within _ _ (counted (c .before)) (omega arith)),
 )
 
 returns-2 : tie.Need-returns-2 Inv-loop μ-loop
@@ -79,6 +83,7 @@ crowded-part-spec =
     loop-holds
     mul-if1
     array-read-if1
+    cast-if1
     returns
     add-p
     loop-less

@@ -4,8 +4,9 @@ use mathlib.Core.Path.{refl}
 use native.Mathlib.Omega.{arith}
 use borrow.Author.Needs.{needs}
 use lib.ListN.{length}
-use Rattle.station.proofs.Each.{words-due}
-use Rattle.station.proofs.Counting.{Counted, Countable, counted-start, countable, counted-end}
+use Rattle.words.specs.Limits.{mostParts}
+use Rattle.station.proofs.Each.{two-words}
+use Rattle.station.proofs.Counting.{Counted, CountStep, counted-start, count-step, counted-end}
 use Rattle.station.proofs.fields.cables_per_part.Statement.{statement}
 use Rattle.station.proofs.fields.cables_per_part.Tie as tie
 
@@ -17,13 +18,13 @@ abbrev μ-loop : tie.MeasureT-loop
 
 -- the cable at i can be counted
 here : (c : tie.After-second Inv-loop μ-loop)
-    → Countable (c .before .before .before .before .before .before .before .args .list .now) (c .before .before .before .before .before .loop .counts) (c .before .before .before .before .before .loop .i) (c .before .before .first .result) (c .second .result)
+    → CountStep (c .before .before .before .before .before .before .before .args .list .now) (c .before .before .before .before .before .loop .counts) (c .before .before .before .before .before .loop .i) (c .before .before .first .result) (c .second .result)
 here c =
-    let g = c .before .before .before .before .before .before .before .pre in
-    countable _ _ _ (c .before .before .before .before .before .loop .inv) (omega arith) (g .0) (g .1) (g .2) (g .3) _ _ (c .before .before .first .ensures) (c .second .ensures)
+    count-step _ _ _ (c .before .before .before .before .before .loop .inv) (omega arith) (c .before .before .before .before .before .before .before .pre) _ _
+    (c .before .before .first .ensures) (c .second .ensures)
 
 loop-holds : tie.Need-loop-holds Inv-loop μ-loop
-loop-holds c = counted-start (c .before .args .list .now) 256 refl (omega (arith, words-due _ (c .before .pre .0)))
+loop-holds c = counted-start (c .before .args .list .now) mostParts refl (two-words _ 6 (c .before .pre) (omega arith))
 
 mul-t6 : tie.Need-mul-t6 Inv-loop μ-loop
 mul-t6 c = search needs

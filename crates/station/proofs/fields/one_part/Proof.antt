@@ -1,7 +1,6 @@
 -- `station::fields::one_part` meets its contract. Assumes nothing.
-use mathlib.Core.Path.{sym, ap, _∙_}
-use Rattle.station.specs.Station.{Cable, cableOf}
-use Rattle.station.proofs.Cables.{cable-at}
+use mathlib.Core.Path.{sym, _∙_}
+use Rattle.station.proofs.Cables.{one-at}
 use borrow.Author.Needs.{needs}
 use Rattle.station.proofs.fields.one_part.Statement.{statement}
 use Rattle.station.proofs.fields.one_part.Tie as tie
@@ -19,8 +18,7 @@ first-requires : tie.Need-first-requires
 first-requires c κs = search needs
 
 returns : tie.Need-returns
-unfolding cableOf
-returns c = c .first .ensures ∙ sym (ap (λ (x : Cable). x .one) (cable-at _ _))
+returns c = c .first .ensures ∙ sym (one-at _ _)
 
 pub one-part-spec : {M : Type 1} → statement M
 one-part-spec = tie.close (tie.spec add-t4 mul-t5 shared-slice-read-t7 first-requires returns)

@@ -1,7 +1,6 @@
 -- `station::fields::other_part` meets its contract. Assumes nothing.
-use mathlib.Core.Path.{sym, ap, _∙_}
-use Rattle.station.specs.Station.{Cable, cableOf}
-use Rattle.station.proofs.Cables.{cable-at}
+use mathlib.Core.Path.{sym, _∙_}
+use Rattle.station.proofs.Cables.{other-at}
 use borrow.Author.Needs.{needs}
 use Rattle.station.proofs.fields.other_part.Statement.{statement}
 use Rattle.station.proofs.fields.other_part.Tie as tie
@@ -19,8 +18,7 @@ second-requires : tie.Need-second-requires
 second-requires c κs = search needs
 
 returns : tie.Need-returns
-unfolding cableOf
-returns c = c .second .ensures ∙ sym (ap (λ (x : Cable). x .other) (cable-at _ _))
+returns c = c .second .ensures ∙ sym (other-at _ _)
 
 pub other-part-spec : {M : Type 1} → statement M
 other-part-spec = tie.close (tie.spec add-t4 mul-t5 shared-slice-read-t7 second-requires returns)

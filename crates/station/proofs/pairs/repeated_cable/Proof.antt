@@ -7,6 +7,7 @@ use borrow.Author.Needs.{needs}
 use lib.ListN.{length, getD}
 use Rattle.lists.specs.Search.{seek}
 use Rattle.lists.proofs.Search.{seek-at, seek-next, seek-end}
+use Rattle.words.specs.Limits.{pairPlaces}
 use Rattle.station.specs.Checks.{repeated, check7}
 use Rattle.station.proofs.Each.{two-words}
 use Rattle.station.proofs.Repeats.{Table, Below, below, index-below, table-start, table-more, table-says}
@@ -19,18 +20,18 @@ Inv-loop list seen₀ i₀ seen i = Table list seen i × (check7 list ≡ seek (
 abbrev μ-loop : tie.MeasureT-loop
 μ-loop list seen₀ i₀ seen i = length list - i
 
--- the word at i names parts below 256
+-- the table has room for the parts that the word at i names
 word-below : (c : tie.After-shared-slice-known2 Inv-loop μ-loop) → Below (getD (c .before .before .before .before .args .list .now) (c .before .before .loop .i) 0)
-word-below c = below _ _ (c .before .before .before .before .pre .1) (c .before .before .before .before .pre .2) (omega arith) (omega arith)
+word-below c = below _ _ (c .before .before .before .before .pre) (omega arith) (omega arith)
 
--- its entry of the table says whether it is a repeat
+-- its place in the table says whether it is a repeat
 entry-says : (c : tie.After-pair-index Inv-loop μ-loop)
     → repeated (c .before .before .before .before .before .args .list .now) (c .before .before .before .loop .i) ≡ getD (c .before .before .before .loop .seen) (c .pair-index .result) false
 entry-says c = rw (c .pair-index .ensures) (sym (table-says _ _ _ (c .before .before .before .loop .inv .0) (word-below (c .before))))
 
 loop-holds : tie.Need-loop-holds Inv-loop μ-loop
 unfolding check7
-loop-holds c = (table-start (c .before .args .list .now) 65536 refl (two-words _ (c .before .pre .0)), refl)
+loop-holds c = (table-start (c .before .args .list .now) pairPlaces refl (two-words _ 5 (c .before .pre) (omega arith)), refl)
 
 mul-pair-index : tie.Need-mul-pair-index Inv-loop μ-loop
 mul-pair-index c = search needs

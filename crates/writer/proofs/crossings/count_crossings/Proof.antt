@@ -2,18 +2,18 @@
 use Prim.Native.Nat.{_+_, _-_, _*_, _≤_}
 use native.Mathlib.Omega.{arith}
 use mathlib.Core.Path.{_≡_}
-use lib.ListN.{length, drop, length-drop}
-use Rattle.lists.proofs.Sums.{count-length}
-use Rattle.drawing.specs.Drawing.{routeAt, crossPair, crossingsOf, crossings}
+use lib.ListN.{length, drop}
+use Rattle.words.specs.Limits.{mostCables}
+use Rattle.drawing.specs.Drawing.{crossingsOf, crossings}
 use Rattle.writer.specs.Values.{layoutIn}
-use Rattle.writer.proofs.CrossingCounts.{crossings-all, crossings-next, crossings-end}
+use Rattle.writer.proofs.CrossingCounts.{crossings-few, crossings-all, crossings-next, crossings-end}
 use Rattle.writer.proofs.Layouts.{route-count}
 use Rattle.writer.proofs.crossings.count_crossings.Statement.{statement}
 use Rattle.writer.proofs.crossings.count_crossings.Tie as tie
 
 abbrev Inv-loop : tie.InvT-loop
 Inv-loop layout m got₀ i₀ got i =
-    (i ≤ m) × (got ≤ 512 * i) × (got + crossingsOf (layoutIn layout) (drop i (layoutIn layout .routes)) ≡ crossings (layoutIn layout))
+    (i ≤ m) × (got ≤ mostCables * i) × (got + crossingsOf (layoutIn layout) (drop i (layoutIn layout .routes)) ≡ crossings (layoutIn layout))
 
 abbrev μ-loop : tie.MeasureT-loop
 μ-loop layout m got₀ i₀ got i = m - i
@@ -22,26 +22,17 @@ cable-count : (s : tie.Start Inv-loop μ-loop) → length (layoutIn (s .args .la
 cable-count s =
     route-count (s .args .layout) (s .pre) (s .good .0 .1 .1 .0 .1 .1 .1 .1 .0 .1 .0 .1)
 
--- a cable crosses at most as many as stand behind it
-few : (c : tie.After-crossings-of Inv-loop μ-loop) → c .crossings-of .result ≤ 512
+few : (c : tie.After-crossings-of Inv-loop μ-loop) → c .crossings-of .result ≤ mostCables
 few c =
-    let i = c .before .before .loop .i in
     let s = c .before .before .before in
-    let d = layoutIn (s .args .layout) in
-    omega (
-      arith,
-      c .crossings-of .ensures,
-      count-length (crossPair d (routeAt d i)) (drop (i + 1) (d .routes)),
-      length-drop (i + 1) (d .routes),
-      cable-count s,
-      s .pre .given .cables,
-    )
+    let b : c .crossings-of .result ≤ length (layoutIn (s .args .layout) .routes) = crossings-few _ _ _ (c .crossings-of .ensures) in
+    omega (arith, cable-count s, s .pre .given .cables)
 
 loop-holds : tie.Need-loop-holds Inv-loop μ-loop
 loop-holds c = (omega arith, omega arith, omega (arith, crossings-all (layoutIn (c .args .layout))))
 
 crossings-of-requires : tie.Need-crossings-of-requires Inv-loop μ-loop
-crossings-of-requires c κs = (c .before .before .pre, c .loop-test .taken)
+crossings-of-requires c κs = (c .before .before .pre, omega arith)
 
 add-got : tie.Need-add-got Inv-loop μ-loop
 add-got c = omega (arith, few c, c .before .before .before .pre .given .cables)

@@ -31,7 +31,7 @@ element-copy-out-part-word c = omega (arith, c .before .before .before .before .
 part-word-requires : tie.Need-part-word-requires Inv-loop μ-loop
 part-word-requires c κs =
     let s = c .before .before .before .before .before in
-    (s .pre .0, rank-below (s .args .layout) (s .pre .0) (s .args .t3) (s .pre .1 .0) (c .before .before .before .loop .p) (c .before .before .loop-test .taken))
+    (s .pre .0, rank-below (s .args .layout) (s .pre .0) (s .args .t3) (s .pre .1 .0) _ (omega arith))
 
 put-requires : tie.Need-put-requires Inv-loop μ-loop
 put-requires c κs =

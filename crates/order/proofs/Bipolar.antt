@@ -1,5 +1,4 @@
--- What the order theorem asks of a station. Its condition on paths is weaker than a pass of check 10, from which it follows.
--- Assumes nothing.
+-- What the order theorem asks of a station: that it is bipolar, which is weaker than a pass of check 10 and follows from it. Assumes nothing.
 use Prim.Native.Nat.{ℕ, _<_}
 use native.Mathlib.Decide.{ℕ-discrete}
 use mathlib.Core.Path.{_≡_, sym, _∙_}
@@ -10,22 +9,23 @@ use Rattle.order.specs.Reach.{Path, check10}
 use Rattle.order.proofs.Joins.{Within}
 use Rattle.order.proofs.Checks.{Off, check10-nothing}
 
--- For every part v, every other part has a path without v to s or to t, whichever of them is not v: where v is one of them, the path is to the other.
-abbrev pub Weak : Station → Type 0
-Weak st =
+-- The station is biconnected once a cable joins s and t: for every part v, every other part has a path without v to s or to t. Where v is one of them, the path
+-- is to the other.
+abbrev pub Bipolar : Station → Type 0
+Bipolar st =
     (v p : ℕ) → v < st .parts → p < st .parts → (p ≡ v → ⊥)
     → Path (st .cables) (Off (st .parts) v) (st .source) p ⊎ Path (st .cables) (Off (st .parts) v) (st .analyser) p
 
--- a station with an order: its ends are two parts, its cables join parts, and the condition above
+-- a station with an order: its ends are two parts, its cables join parts, and it is bipolar
 pub record Orderable (st : Station) : Type 0 where
   pub source : st .source < st .parts
   pub analyser : st .analyser < st .parts
   pub apart : st .source ≡ st .analyser → ⊥
   pub within : Within (st .parts) (st .cables)
-  pub weak : Weak st
+  pub bipolar : Bipolar st
 
-pub weak-of-check10 : (st : Station) → st .source < st .parts → st .analyser < st .parts → (st .source ≡ st .analyser → ⊥) → check10 st ≡ Nothing → Weak st
-weak-of-check10 st s t n e v p l m h = go (ℕ-discrete (st .source) v)
+pub bipolar-of-check10 : (st : Station) → st .source < st .parts → st .analyser < st .parts → (st .source ≡ st .analyser → ⊥) → check10 st ≡ Nothing → Bipolar st
+bipolar-of-check10 st s t n e v p l m h = go (ℕ-discrete (st .source) v)
   where
     go : Dec (st .source ≡ v) → Path (st .cables) (Off (st .parts) v) (st .source) p ⊎ Path (st .cables) (Off (st .parts) v) (st .analyser) p
     go (yes q) = inr (check10-nothing st .0 e v l p (st .analyser) (m, h) (t, λ r. n (q ∙ sym r)))

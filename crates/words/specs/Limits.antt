@@ -1,0 +1,37 @@
+-- The limits of document 01, those that follow from them, and the lengths of the tables that have room for every station within them. Assumes nothing.
+use Prim.Native.Nat.{ℕ, _+_, _*_, _-_, _/_}
+
+-- 'A station has 3 to 256 parts'
+abbrev pub leastParts : ℕ
+leastParts = 3
+
+abbrev pub mostParts : ℕ
+mostParts = 256
+
+-- the greatest degree: 'a part with more than four cables' is refused
+abbrev pub mostDegree : ℕ
+mostDegree = 4
+
+-- every cable is one of the cables of two parts
+abbrev pub mostCables : ℕ
+mostCables = mostDegree * mostParts / 2
+
+-- 'The sheet has .. 3m - n + 3 + d + e words', where d and e are at most 1 and m at most 2n
+abbrev pub mostWords : ℕ
+mostWords = 3 * mostCables - mostParts + 3 + 1 + 1
+
+-- room for the neighbours of each part
+abbrev pub neighbourPlaces : ℕ
+neighbourPlaces = mostDegree * mostParts
+
+-- the adjacency table: the neighbours of each part, then the degree of each
+abbrev pub adjacencyPlaces : ℕ
+adjacencyPlaces = neighbourPlaces + mostParts
+
+-- the stack of a walk, which puts its first part on it and then each part's neighbours: at most 1 + 4n of its places are used
+abbrev pub stackPlaces : ℕ
+stackPlaces = neighbourPlaces + mostParts
+
+-- a table of the pairs of parts
+abbrev pub pairPlaces : ℕ
+pairPlaces = mostParts * mostParts

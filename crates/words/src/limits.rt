@@ -1,0 +1,27 @@
+// The limits of document 01, those that follow from them, and the lengths of the tables that have room for every station within them.
+
+// 'A station has 3 to 256 parts'.
+pub const LEAST_PARTS: usize = 3;
+
+pub const MOST_PARTS: usize = 256;
+
+// The greatest degree: 'a part with more than four cables' is refused.
+pub const MOST_DEGREE: usize = 4;
+
+// Every cable is one of the cables of two parts.
+pub const MOST_CABLES: usize = MOST_DEGREE * MOST_PARTS / 2;
+
+// 'The sheet has .. 3m - n + 3 + d + e words', where d and e are at most 1 and m at most 2n.
+pub const MOST_WORDS: usize = 3 * MOST_CABLES - MOST_PARTS + 3 + 1 + 1;
+
+// Room for the neighbours of each part.
+pub const NEIGHBOUR_PLACES: usize = MOST_DEGREE * MOST_PARTS;
+
+// The adjacency table: the neighbours of each part, then the degree of each.
+pub const ADJACENCY_PLACES: usize = NEIGHBOUR_PLACES + MOST_PARTS;
+
+// The stack of a walk, which puts its first part on it and then each part's neighbours: at most 1 + 4n of its places are used.
+pub const STACK_PLACES: usize = NEIGHBOUR_PLACES + MOST_PARTS;
+
+// A table of the pairs of parts.
+pub const PAIR_PLACES: usize = MOST_PARTS * MOST_PARTS;
