@@ -1,54 +1,412 @@
 #!/usr/bin/env python3
-"""Counts instructions of the sheet program and of baseline.c, an unverified program doing the same, on the largest stations.
+"""Measures `dovranis_draw` of the proved library beside `baseline_draw` of baseline.c, an unverified program written for speed: the call alone.
 
-  measure.py        needs valgrind and cc; the program is target/bin/sheet, made by `rt check sheet`
+  measure.py [WORD..]              a line for each list whose name has all the words: instructions and time of both, and the ratios
+  measure.py --markdown [WORD..]   the same as a table for docs/PERFORMANCE.md
+  measure.py --functions [WORD..]  where the instructions go, on stations of 256 parts
+  measure.py --passes [WORD..]     instructions on stations of 256 parts, with baseline.c in its simpler form too: a depth-first pass at each rank
+  measure.py --program             instructions of the program target/bin/sheet (made by `rt check sheet`) and of baseline.c as a program
+  --archive FILE                   takes this archive, and neither proves nor builds one
 
-256 parts as a ladder, a grid, a ring and two random rings over the same parts, with part numbers in order, reversed and shuffled. It is no part of the gate."""
+It needs cc, objdump and valgrind. Instructions are callgrind's, of one call and all that it calls. Time is the best of many rounds, a round being
+as many calls as take 20 microseconds; the two have four rounds each in turn. Both answers are compared. It is no part of the gate."""
+import math
 import os
 import random
 import re
 import subprocess
+import sys
 import tempfile
 
+import door
 import lists
 import reference
 
 HERE = os.path.dirname(os.path.abspath(__file__))
-PROGRAM = os.path.join(os.path.dirname(HERE), 'target', 'bin', 'sheet')
+PROGRAM = os.path.join(door.TOP, 'target', 'bin', 'sheet')
+SWEEPS, SECONDS = 10, 0.1       # over all lists, so that a busy minute of the machine spoils no list's best; for one list in a sweep, both calls together
+
+DRIVER = r'''
+#include <stdio.h>
+#include <stdlib.h>
+#include <string.h>
+#include <time.h>
+#include "dovranis.h"
+
+typedef uint32_t call(const uint32_t *, size_t, uint32_t *, size_t, size_t *, size_t *, size_t *);
+call baseline_draw;
+
+struct answer { uint32_t result, sheet[2048]; size_t words, crossings, place; };
+
+static uint32_t *list;
+static size_t count, room;
+
+static void ask(call *draw, struct answer *a) {
+    a->result = draw(list, count, a->sheet, room, &a->words, &a->crossings, &a->place);
+}
+
+static double now(void) {
+    struct timespec t;
+    clock_gettime(CLOCK_MONOTONIC, &t);
+    return t.tv_sec + 1e-9 * t.tv_nsec;
+}
+
+static double seconds(call *draw, long calls) {
+    static struct answer a;
+    double from = now();
+    for (long k = 0; k < calls; k++) ask(draw, &a);
+    return now() - from;
+}
+
+static long calls_of_a_round(call *draw) {
+    long calls = 1;
+    while (seconds(draw, calls) < 2e-5) calls *= 2;
+    return calls;
+}
+
+/* FILE ROOM ours | FILE ROOM baseline | FILE ROOM SECONDS */
+int main(int argc, char **argv) {
+    static struct answer ours, theirs;
+    if (argc != 4) return 2;
+    FILE *f = fopen(argv[1], "rb");
+    fseek(f, 0, SEEK_END);
+    count = ftell(f) / 4;
+    rewind(f);
+    list = malloc(4 * count + 4);
+    if (fread(list, 4, count, f) != count) return 2;
+    room = atol(argv[2]);
+    if (!strcmp(argv[3], "ours")) { ask(dovranis_draw, &ours); return 0; }
+    if (!strcmp(argv[3], "baseline")) { ask(baseline_draw, &theirs); return 0; }
+    ask(dovranis_draw, &ours);
+    ask(baseline_draw, &theirs);
+    call *draws[2] = {dovranis_draw, baseline_draw};
+    double best[2] = {1, 1}, until = now() + atof(argv[3]);
+    long calls[2] = {calls_of_a_round(draws[0]), calls_of_a_round(draws[1])};
+    for (long turns = 0; turns < 4 || now() < until; turns++)
+        for (int i = 0; i < 2; i++)
+            for (int round = 0; round < 4; round++) {
+                double took = seconds(draws[i], calls[i]) / calls[i];
+                if (took < best[i]) best[i] = took;
+            }
+    printf("%d %u %zu %.4g %.4g\n", memcmp(&ours, &theirs, sizeof ours) == 0, ours.result, ours.result ? ours.place : ours.words, best[0], best[1]);
+    return 0;
+}
+'''
 
 
-def stations():
+# The lists, as (name, words, length of output).
+
+NUMBERS = ('in order', 'reversed', 'shuffled')
+
+
+def numbered(rng, n, cables, numbers):
+    """The station with its part numbers in this order; s has been part 0 and t part n - 1."""
+    by = list(range(n))
+    if numbers == 'reversed':
+        by.reverse()
+    elif numbers == 'shuffled':
+        rng.shuffle(by)
+    return lists.build(n, by[0], by[n - 1], [(by[a], by[b]) for a, b in sorted(cables)])
+
+
+def of_ears(rng, n):
+    """A random station with 1.4 to 1.6 cables for each part."""
+    while True:
+        _, cables = lists.ears(rng, n)
+        if 1.4 * n <= len(cables) <= 1.6 * n:
+            return n, cables
+
+
+KINDS = (('ladder', lambda rng, n: lists.grid(2, n // 2)), ('grid', lambda rng, n: lists.grid(int(n ** 0.5), int(n ** 0.5))), ('ring', lambda rng, n: lists.ring(n)),
+         ('four-regular', lists.four_regular), ('random', of_ears))
+
+
+def stations(sizes=(16, 64, 256)):
+    for n in sizes:
+        for kind, make in KINDS:
+            name = '%s of %d' % (kind, n)
+            rng = random.Random(name)
+            _, cables = make(rng, n)
+            for numbers in NUMBERS:
+                yield '%s, %s' % (name, numbers), numbered(rng, n, cables, numbers), 2048
+
+
+def hung(rng, sizes):
+    """Stations with four cables at each part, and a last part put into a cable of each: the only cut part."""
+    cables, base, n = set(), 0, sum(sizes)
+    for size in sizes:
+        more = sorted((a + base, b + base) for a, b in lists.four_regular(rng, size)[1])
+        a, b = more.pop()
+        cables |= set(more) | {(a, n), (b, n)}
+        base += size
+    return n + 1, cables
+
+
+def refusals():
+    """The longest list that each check refuses, with its fault as far behind as it can be; a million words where there is no longest."""
+    rng = random.Random(2)
+    most = 65535
+    long = [lists.cable(0, 1), lists.cable(1, 2)] * 500000
+
+    def full(n, cables, last=()):
+        return [lists.head(n, most), lists.ends(0, 1)] + (list(cables) + list(last))[:most]
+
+    yield 'refused 1', [lists.head(3, 0)], 2048
+    yield 'refused 2', [lists.head(256, most), lists.ends(0, 1)] + long[:999997] + [0x40000000], 2048
+    yield 'refused 3', [lists.head(256, most), lists.ends(0, 1)] + long[:999998], 2048
+    yield 'refused 4', full(257, long[:most]), 2048
+    yield 'refused 5', full(256, long[:most - 1], [lists.cable(0, 256)]), 2048
+    yield 'refused 6', full(256, long[:most - 1], [lists.cable(255, 255)]), 2048
+    pairs = [lists.cable(a, b) for a, b in sorted(lists.complete(256)[1])]
+    yield 'refused 7', full(256, pairs + pairs + pairs), 2048
+    yield 'refused 8', [lists.head(256, len(pairs)), lists.ends(0, 1)] + pairs, 2048
+    n, cables = lists.four_regular(rng, 251)
+    yield 'refused 9', lists.build(256, 0, 1, sorted(cables) + [(n + a, n + b) for a, b in sorted(lists.complete(5)[1])]), 2048
+    n, cables = hung(rng, (128, 127))
+    yield 'refused 10', lists.build(n, 0, 1, sorted(cables)), 2048
+    n, cables = lists.four_regular(rng, 256)
+    yield 'refused 11', lists.build(n, 0, 255, sorted(cables)), 1284
+
+
+def chosen(rows, asked):
+    return [row for row in rows if all(re.search(r'(?<!\w)%s(?!\w)' % re.escape(word), row[0]) for word in asked)]
+
+
+# The two calls.
+
+class Driver:
+    def __init__(self, folder, archive, flags=()):
+        self.folder, self.program = folder, os.path.join(folder, 'driver')
+        os.mkdir(folder)
+        source = self.program + '.c'
+        with open(source, 'w') as f:
+            f.write(DRIVER)
+        subprocess.run(['cc', '-O3', '-Wl,-z,now', *flags, '-I', door.INCLUDE, '-o', self.program, source, os.path.join(HERE, 'baseline.c'), archive], check=True)
+
+    def keep(self, words):
+        path = os.path.join(self.folder, 'list')
+        with open(path, 'wb') as f:
+            f.write(b''.join(w.to_bytes(4, 'little') for w in words))
+        return path
+
+    def times(self, name, words, room):
+        """Seconds of ours and of the baseline."""
+        same, result, place, ours, theirs = subprocess.run([self.program, self.keep(words), str(room), str(SECONDS)], check=True, stdout=subprocess.PIPE, text=True).stdout.split()
+        if same != '1':
+            sys.exit('%s: the answers differ' % name)
+        if result != (name.split()[1] if name.startswith('refused') else '0'):
+            sys.exit('%s: the result is %s %s' % (name, result, place))
+        return float(ours), float(theirs)
+
+    def trace(self, which, words, room, more=()):
+        """The path of callgrind's file for one call, and the instructions."""
+        out = os.path.join(self.folder, 'callgrind.out')
+        name = {'ours': 'dovranis_draw', 'baseline': 'baseline_draw'}[which]
+        r = subprocess.run(['valgrind', '--tool=callgrind', '--toggle-collect=' + name, '--callgrind-out-file=' + out, *more, self.program, self.keep(words), str(room), which],
+                           check=True, stdout=subprocess.PIPE, stderr=subprocess.PIPE)
+        return out, int(re.search(rb'Collected : (\d+)', r.stderr).group(1))
+
+    def instructions(self, which, words, room):
+        return self.trace(which, words, room)[1]
+
+
+HEADS = ('list', 'words', 'instructions', 'baseline', 'ratio', 'µs', 'baseline', 'ratio')
+
+
+def shown(row, markdown):
+    row = [str(k) for k in row]
+    return '| %s |' % ' | '.join(row) if markdown else '%-28s' % row[0] + ''.join('%14s' % k for k in row[1:])
+
+
+def microseconds(t):
+    """Three digits."""
+    return '{:,.{}f}'.format(1e6 * t, max(0, 2 - math.floor(math.log10(1e6 * t))))
+
+
+def compare(driver, asked, markdown):
+    rows = chosen(list(stations()) + list(refusals()), asked)
+    best = [(math.inf, math.inf)] * len(rows)
+    for _ in range(SWEEPS):
+        best = [tuple(map(min, best[i], driver.times(*row))) for i, row in enumerate(rows)]
+    print(shown(HEADS, markdown))
+    if markdown:
+        print('|---|' + '---:|' * (len(HEADS) - 1))
+    groups = {}
+    for (name, words, room), (a, b) in zip(rows, best):
+        i, j = (driver.instructions(which, words, room) for which in ('ours', 'baseline'))
+        print(shown((name, '{:,}'.format(len(words)), '{:,}'.format(i), '{:,}'.format(j), '%.1f' % (i / j), microseconds(a), microseconds(b), '%.1f' % (a / b)), markdown), flush=True)
+        size = name.split(',')[0].split(' of ')[-1]
+        groups.setdefault('stations of %s parts' % size if size.isdigit() else 'refusals', []).append((i / j, a / b))
+    print()
+    for name, ratios in groups.items():
+        (i, a), (j, b) = (map(f, zip(*ratios)) for f in (min, max))
+        print('- %s: %.1f to %.1f times the instructions, %.1f to %.1f times the time' % (name, i, j, a, b))
+
+
+# Where the instructions go. The archive has one function with all others inside, and no names. So each of its instructions is given to the first stage that
+# runs it, told by lists that are refused there, and below that to its loops, told by their backward jumps.
+
+STAGES = (('checks 1 to 8', range(1, 9)), ('check 9', [9]), ('check 10', [10]), ('order, columns, courses', [11]))
+LAST = 'words, crossings'
+
+
+def costs(path):
+    """Instructions by function name, and by address in dovranis_draw."""
+    by_name, by_address, names = {}, {}, {}
+    inside, address, called = None, 0, False
+    with open(path) as f:
+        for line in f:
+            m = re.match(r'(c?fn)=\((\d+)\)(?: (.*))?$', line)
+            if m:
+                names.setdefault(m.group(2), m.group(3))
+                if m.group(1) == 'fn':
+                    inside = names[m.group(2)].split("'")[0]      # a function inside itself has a name of its own
+                continue
+            if line.startswith('calls='):
+                called = True
+                continue
+            m = re.match(r'(0x[0-9a-f]+|\+\d+|-\d+|\*) \S+ (\d+)$', line)
+            if not m:
+                continue
+            at = m.group(1)
+            address = int(at, 16) if at.startswith('0x') else address if at == '*' else address + int(at)
+            if not called:
+                by_name[inside] = by_name.get(inside, 0) + int(m.group(2))
+                if inside == 'dovranis_draw':
+                    by_address[address] = by_address.get(address, 0) + int(m.group(2))
+            called = False
+    return by_name, by_address
+
+
+def backward_jumps(program):
+    """(first, last) address of what each backward jump in dovranis_draw repeats; of those to one place the longest."""
+    text = subprocess.run(['objdump', '-d', '--no-show-raw-insn', '--disassemble=dovranis_draw', program], check=True, stdout=subprocess.PIPE, text=True).stdout
+    spans = {}
+    for m in re.finditer(r'^ *([0-9a-f]+):\tj\w+ +([0-9a-f]+) <dovranis_draw', text, re.M):
+        at, to = int(m.group(1), 16), int(m.group(2), 16)
+        if to <= at:
+            spans[to] = max(at, spans.get(to, at))
+    return sorted(spans.items(), key=lambda span: (span[0], -span[1]))
+
+
+def formula(rounds, n, m):
+    for text, value in (('n m', n * m), ('m (m - 1) / 2', m * (m - 1) // 2), ('n n', n * n), ('m', m), ('n', n)):
+        if rounds == value:
+            return ' = ' + text
+    return ''
+
+
+def regions(spans, cost):
+    """Loops that overlap, as one: (first, last, the loops)."""
+    out = []
+    for span in spans:
+        if cost.get(span[0], 0) > 1:
+            if out and span[0] <= out[-1][1]:
+                first, last, inner = out.pop()
+                out.append((first, max(last, span[1]), inner + [span]))
+            else:
+                out.append((span[0], span[1], [span]))
+    return out
+
+
+def say_loops(spans, cost, total, start, n, m, deep=2):
+    """The loops among these instructions that have a share of 1 % or more, and how often the one in them that turns most goes round."""
+    for first, last, inner in regions(spans, cost):
+        share = sum(c for a, c in cost.items() if first <= a <= last)
+        if share * 100 < total:
+            continue
+        rounds = max(cost[span[0]] for span in inner)
+        print('%s%5.1f %%  loop at +%x to +%x, %s rounds%s' % ('    ' * deep, 100 * share / total, first - start, last - start, '{:,}'.format(rounds), formula(rounds, n, m)))
+        if deep == 2:
+            smaller = [span for span in inner if sum(c for a, c in cost.items() if span[0] <= a <= span[1]) < 0.9 * share]
+            say_loops(smaller, cost, total, start, n, m, deep + 1)
+
+
+def say_functions(by_name, total):
+    for function, cost in sorted(by_name.items(), key=lambda item: -item[1]):
+        if cost * 200 >= total:
+            print('%5.1f %%  in %s' % (100 * cost / total, function))
+
+
+def functions(driver, staged, asked):
+    known, stage_of = {int(name.split()[1]): (words, room) for name, words, room in refusals()}, {}
+    for stage, checks in STAGES:
+        for check in checks:
+            words, room = known[check]
+            for address in costs(driver.trace('ours', words, room, ['--dump-instr=yes'])[0])[1]:
+                stage_of.setdefault(address, stage)
+    spans = backward_jumps(driver.program)
+    for name, words, room in chosen(stations((256,)), asked):
+        n, m = reference.list_head(words[0])
+        by_name, by_address = costs(driver.trace('ours', words, room, ['--dump-instr=yes'])[0])
+        total = sum(by_name.values())
+        print('%s: %s instructions, n = %d, m = %d' % (name, '{:,}'.format(total), n, m))
+        say_functions(by_name, total)
+        for stage in [stage for stage, _ in STAGES] + [LAST]:
+            cost = {a: c for a, c in by_address.items() if stage_of.get(a, LAST) == stage}
+            print('    %5.1f %%  %s' % (100 * sum(cost.values()) / total, stage))
+            say_loops(spans, cost, total, min(by_address), n, m)
+        path, total = staged.trace('baseline', words, room, ['--dump-instr=yes'])
+        print('  baseline: %s instructions' % '{:,}'.format(total))
+        say_functions(costs(path)[0], total)
+        print(flush=True)
+
+
+def passes(driver, other, asked):
+    print('| list | instructions | a pass at each rank | baseline |\n|---|---:|---:|---:|')
+    for name, words, room in chosen(stations((256,)), asked):
+        print('| %s | %s |' % (name, ' | '.join('{:,}'.format(d.instructions(which, words, room)) for d, which in ((driver, 'ours'), (other, 'baseline'), (driver, 'baseline')))), flush=True)
+
+
+# The program, from its start to its end.
+
+def program_stations():
     rng = random.Random(1)
     for name, (n, cables) in (('ladder', lists.grid(2, 128)), ('grid', lists.grid(16, 16)), ('ring', lists.ring(256)),
                               ('random, 512 cables', lists.four_regular(rng, 256))):
-        for numbers in ('in order', 'reversed', 'shuffled'):
-            by = list(range(n))
-            if numbers == 'reversed':
-                by.reverse()
-            elif numbers == 'shuffled':
-                rng.shuffle(by)
-            rows = [(by[a], by[b]) for a, b in sorted(cables)]
-            yield '%s, %s' % (name, numbers), lists.build(n, by[0], by[n - 1], rows)
+        for numbers in NUMBERS:
+            yield '%s, %s' % (name, numbers), numbered(rng, n, cables, numbers)
 
 
-def instructions(program, data, folder):
+def program_instructions(program, data, folder):
     out = os.path.join(folder, 'callgrind')
     r = subprocess.run(['valgrind', '--tool=callgrind', '--callgrind-out-file=' + out, program], input=data,
                        stdout=subprocess.PIPE, stderr=subprocess.PIPE)
     return int(re.search(rb'Collected : (\d+)', r.stderr).group(1)), r.stdout
 
 
-def main():
+def compare_program(folder):
+    baseline = os.path.join(folder, 'baseline')
+    subprocess.run(['cc', '-O3', '-DBASELINE_MAIN', '-o', baseline, os.path.join(HERE, 'baseline.c')], check=True)
+    empty = [program_instructions(p, b'', folder)[0] for p in (PROGRAM, baseline)]
+    print('%-34s %14s %14s %7s' % ('station', 'sheet', 'baseline', 'ratio'))
+    for name, words in program_stations():
+        data = reference.file_of(words)
+        (a, x), (b, y) = (program_instructions(p, data, folder) for p in (PROGRAM, baseline))
+        a, b = a - empty[0], b - empty[1]
+        print('%-34s %14d %14d %7.2f%s' % (name, a, b, a / b, '' if x == y else '  OUTPUTS DIFFER'))
+
+
+def main(args):
+    archive = None
+    if '--archive' in args:
+        at = args.index('--archive')
+        archive = args[at + 1]
+        args = args[:at] + args[at + 2:]
+    asked = [word for word in args if not word.startswith('--')]
     with tempfile.TemporaryDirectory() as folder:
-        baseline = os.path.join(folder, 'baseline')
-        subprocess.run(['cc', '-O2', '-o', baseline, os.path.join(HERE, 'baseline.c')], check=True)
-        empty = [instructions(p, b'', folder)[0] for p in (PROGRAM, baseline)]
-        print('%-34s %14s %14s %7s' % ('station', 'sheet', 'baseline', 'ratio'))
-        for name, words in stations():
-            data = reference.file_of(words)
-            (a, x), (b, y) = (instructions(p, data, folder) for p in (PROGRAM, baseline))
-            a, b = a - empty[0], b - empty[1]
-            print('%-34s %14d %14d %7.2f%s' % (name, a, b, a / b, '' if x == y else '  OUTPUTS DIFFER'))
+        if '--program' in args:
+            return compare_program(folder)
+        if archive is None:
+            door.build()
+            archive = door.ARCHIVE
+        driver = Driver(os.path.join(folder, 'plain'), archive)
+        if '--functions' in args:
+            return functions(driver, Driver(os.path.join(folder, 'stages'), archive, ['-DBASELINE_STAGES']), asked)
+        if '--passes' in args:
+            return passes(driver, Driver(os.path.join(folder, 'passes'), archive, ['-DBASELINE_PASS_PER_RANK=1']), asked)
+        return compare(driver, asked, '--markdown' in args)
 
 
-main()
+if __name__ == '__main__':
+    main(sys.argv[1:])

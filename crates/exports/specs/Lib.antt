@@ -1,0 +1,2 @@
+-- What the exported calls give. Assumes nothing.
+pub mod Call

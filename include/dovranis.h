@@ -1,0 +1,97 @@
+/* Hookup sheets from cable lists: the calls for programs in C and C++.
+ *
+ * Link with target/staticlib/libexports.a, which `rt staticlib exports` proves and writes (x86-64,
+ * Linux; it needs memcpy and memset and nothing else). This header says in words what the contracts
+ * in crates/exports/src/lib.rt say and the proofs show.
+ *
+ * Lists and sheets are rows of 32-bit words in the machine's own byte order. Bits 31 to 28 are the
+ * kind; unless said otherwise bits 27 to 24 are zero, then come two fields, bits 23 to 12 and 11 to 0.
+ *
+ *   1  list head: n parts in bits 27 to 16, m cables in bits 15 to 0
+ *   2  ends: source, analyser            5  a part's x, y
+ *   3  cable: its two parts              6  cable: line in bits 27 to 12, count of corners
+ *   4  sheet head: width, height         7  a corner's x, y
+ *
+ * A list is one head, one ends word and m cables. A sheet is its head, the parts by number, then the
+ * cables by line, each followed by its corners from the lower-ranked end upward.
+ */
+#ifndef DOVRANIS_H
+#define DOVRANIS_H
+
+#include <stddef.h>
+#include <stdint.h>
+
+#ifdef __cplusplus
+extern "C" {
+#endif
+
+/* An output of so many words is long enough for the sheet of every list: with it, or with a longer
+ * one, refusal 11 never comes (the law `never-11` in crates/exports/proofs/Calls.antt), and a longer
+ * one changes no answer (`room-ample` in Bounds.antt, there too). Some stations need them all. */
+#define DOVRANIS_MOST_WORDS 1285
+
+/* DOVRANIS_MOST_WORDS, for programs that do not read this header. */
+size_t dovranis_most_words(void);
+
+/* Draws the sheet of a list into the output `sheet`, or says why the list is sent back.
+ *
+ * The result is 0 for a sheet, and else the number of the check that refuses, 1 to 11. It, and all that
+ * is stored, depends on the words of the list and on sheet_count alone. Every list is answered.
+ *
+ * 0, a sheet:
+ *   sheet      its first *words words are the sheet's; the words behind them are as they were
+ *   words      the words of the sheet, at most sheet_count and at most DOVRANIS_MOST_WORDS
+ *   crossings  the pairs of cables with no part in common whose lines cross
+ *   place      as it was
+ *
+ *   Of the sheet's words this holds, whatever the station. They are a head, all parts and all cables,
+ *   with no word more; x is counted from the left and y from the bottom, both from 0. Width and height
+ *   are the greatest x and y; the width is m - n + 1, the height at most n + 1. No two parts share a
+ *   spot, and by rising row they are the smallest st-ordering from source to analyser. Each cable is
+ *   level and upright runs in turn from one of its two parts to the other. It does not touch itself or
+ *   a part that it doesn't join, and its own parts only with its ends. Any two cables have at most one
+ *   crossing, and any other spot that they share is that of a part that both join. There are at most
+ *   2m - 2n + 4 corners, and at most two cables have more than two.
+ *
+ * 1 to 11, a refusal:
+ *   sheet      as it was, every word
+ *   words      as it was
+ *   crossings  as it was
+ *   place      the place that goes with the number
+ *
+ *   number  condition                                                             place
+ *   1       fewer than two words                                                  words found
+ *   2       a word's kind is wrong for its position, or any of its bits 27 to 24
+ *           is set in kind 2 or 3                                                 first such word, from 0
+ *   3       words other than m + 2                                                m + 2
+ *   4       n below 3 or above 256                                                n
+ *   5       a part number n or more                                               first such word
+ *   6       source equals analyser, or a cable joins a part to itself             first such word
+ *   7       a cable joins the same two parts as an earlier one, either way round  first such later word
+ *   8       a part with more than four cables                                     lowest such part
+ *   9       a part that part 0 doesn't reach                                      lowest such part
+ *   10      a part whose removal leaves two others without a path                 lowest such part
+ *   11      sheet_count is less than the sheet has words                          words of the sheet
+ *
+ * Each check is made over the whole list before the next; the first that applies is the refusal.
+ *
+ * Of the caller's memory the call reads and writes nothing but the list, the output and the three
+ * numbers, and the list is only read. It keeps nothing from call to call and allocates no memory.
+ *
+ * The caller sees to this; nothing tests it:
+ * - list points to list_count words and sheet to sheet_count words, each aligned as uint32_t and of at
+ *   most PTRDIFF_MAX bytes. With a count of 0 the pointer is not followed and may be null.
+ * - words, crossings and place each point to a number, in a call that refuses too: none may be null.
+ * - list, sheet and the three numbers lie apart: no two of the five overlap.
+ * - Until the call returns nothing else writes the list, and nothing else reads or writes the output
+ *   or the numbers. Before the call the output and the numbers may hold anything.
+ * - There are 128 KiB of stack. The proofs do not bound the stack; the tests call with so much.
+ */
+uint32_t dovranis_draw(const uint32_t *list, size_t list_count, uint32_t *sheet, size_t sheet_count,
+                       size_t *words, size_t *crossings, size_t *place);
+
+#ifdef __cplusplus
+}
+#endif
+
+#endif

@@ -1,0 +1,199 @@
+#!/usr/bin/env python3
+"""Calls the library through its C form, beside reference.py, and compares the result, the numbers, the words written and every word around them.
+
+  compare_door.py [COUNT [SEED]]     COUNT lists (default 100000), each with several lengths of output; then lists of a million words and null pointers
+
+List, output and numbers lie in one block of random bytes, with spare words between them; the whole block is compared after each call.
+It is no part of the gate."""
+import ctypes
+import random
+import sys
+import threading
+import time
+
+import door
+import lists
+import reference
+
+STACK = 128 * 1024      # what the header asks for
+
+# where the numbers and the list lie in the block, in bytes
+WORDS, CROSSINGS, PLACE, LIST, SPARE = 8, 24, 40, 64, 16
+
+
+def packed(words):
+    return b''.join(w.to_bytes(4, 'little') for w in words)
+
+
+class Comparison:
+    def __init__(self, lib, rng):
+        self.lib, self.rng, self.most = lib, rng, lib.most_words()
+        self.tally, self.calls, self.wrong, self.longest = {}, 0, 0, 0
+
+    def call(self, words, data, room, full, null_list=False, null_output=False):
+        """One call; full is the answer for an output that is long enough."""
+        due = ('refused', 11, len(full[1])) if full[0] == 'sheet' and room < len(full[1]) else full
+        sheet = LIST + len(data) + SPARE
+        before = self.rng.randbytes(LIST) + data + self.rng.randbytes(SPARE + 4 * room + SPARE)
+        block = bytearray(before)
+        at = ctypes.addressof(ctypes.c_char.from_buffer(block))
+        assert at % 8 == 0
+        result = self.lib.call(None if null_list else at + LIST, len(words), None if null_output else at + sheet, room, at + WORDS, at + CROSSINGS, at + PLACE)
+        after = bytearray(before)
+        if due[0] == 'sheet':
+            number, written = 0, packed(due[1])
+            after[sheet:sheet + len(written)] = written
+            after[WORDS:WORDS + 8] = len(due[1]).to_bytes(8, 'little')
+            after[CROSSINGS:CROSSINGS + 8] = due[2].to_bytes(8, 'little')
+        else:
+            number = due[1]
+            after[PLACE:PLACE + 8] = due[2].to_bytes(8, 'little')
+        name = 'refused %2d' % number if number else 'sheet'
+        self.tally[name] = self.tally.get(name, 0) + 1
+        self.calls += 1
+        if result != number or block != after:
+            self.wrong += 1
+            if self.wrong <= 3:
+                print('differs: result %d, due %s; output of %d; list of %d words %s' % (result, due[:1] + due[-1:], room, len(words), ' '.join('%08x' % w for w in words[:40])))
+
+    def compare(self, words):
+        """The list with output lengths of 0, one less, exact, one more and far more; where there is no sheet, with 0, a few and far more."""
+        data, full = packed(words), reference.answer(words)
+        far = self.rng.choice([self.most, self.most + 1, self.rng.randint(self.most, 3000)])
+        if full[0] == 'sheet':
+            size = len(full[1])
+            self.longest = max(self.longest, size)
+            rooms = [0, size - 1, size, size + 1, far]
+        else:
+            rooms = [0, self.rng.randint(1, 40), far]
+        for room in rooms:
+            self.call(words, data, room, full)
+
+
+# Lists
+
+def damaged(rng, words):
+    """Bits turned over, words cut out, put in or exchanged."""
+    out = list(words)
+    for _ in range(rng.choice([1, 1, 1, 2, 3])):
+        way = rng.randrange(5)
+        i = rng.randrange(len(out)) if out else 0
+        if way == 0 and out:
+            out[i] ^= 1 << rng.randrange(32)
+        elif way == 1 and out:
+            out[i] ^= rng.getrandbits(32) & rng.getrandbits(32) & rng.getrandbits(32)
+        elif way == 2:
+            del out[i:i + rng.choice([1, 1, 2, len(out)])]
+        elif way == 3:
+            out[i:i] = [rng.choice([rng.getrandbits(32), lists.cable(rng.randrange(16), rng.randrange(16))] + out) for _ in range(rng.choice([1, 1, 2, 9]))]
+        elif out:
+            j = rng.randrange(len(out))
+            out[i], out[j] = out[j], out[i]
+    return out
+
+
+def long_list(rng):
+    """Hundreds or thousands of cables, right in kind and count, among a few or many parts."""
+    n, m = rng.choice([3, 40, 256, rng.randint(3, 300)]), rng.randint(300, 4000)
+    rows = [(rng.randrange(n), rng.randrange(n)) for _ in range(m)]
+    if rng.random() < 0.8:
+        rows = [(a, b if a != b else (a + 1) % n) for a, b in rows]
+    if rng.random() < 0.5:
+        rows = list({lists.pair(a, b) for a, b in rows})
+        rng.shuffle(rows)
+    return lists.build(n, 0, n - 1, rows)
+
+
+def any_list(rng):
+    way = rng.random()
+    if way < 0.30:
+        return lists.drawn(rng, 3, 12)
+    if way < 0.42:
+        return lists.drawn(rng, 3, 40)
+    if way < 0.68:
+        return damaged(rng, lists.drawn(rng, 3, rng.choice([4, 8, 16])))
+    if way < 0.86:
+        return lists.refused(rng)
+    if way < 0.96:
+        return lists.noise(rng)
+    if way < 0.99:
+        return [rng.getrandbits(32) for _ in range(rng.randrange(30))]
+    if way < 0.999:
+        return long_list(rng)
+    return lists.large(rng) if rng.random() < 0.6 else damaged(rng, lists.large(rng))
+
+
+def million(rng):
+    """Lists of a million words, and the longest that pass check 3."""
+    count = 1000000
+    right = [lists.head(3, 65535), lists.ends(0, 2)] + [lists.cable(0, 1), lists.cable(1, 2)] * (count // 2 - 1)
+    yield right
+    for i in (0, 1, 2, 65537, rng.randrange(count), count - 1):
+        out = list(right)
+        out[i] ^= 1 << rng.randint(28, 31)
+        yield out
+    yield [0] * count
+    yield [rng.getrandbits(32) for _ in range(count)]
+    # 65,537 words: a part number that is too large, and a cable from a part to itself, in the last word; then all pairs of 256 parts and each once more
+    full = [lists.head(256, 65535)] + right[1:65537]
+    yield full[:-1] + [lists.cable(0, 256)]
+    yield full[:-1] + [lists.cable(255, 255)]
+    pairs = sorted(lists.complete(256)[1])
+    yield lists.build(256, 0, 1, (pairs + pairs + pairs)[:65535])
+
+
+def main(a):
+    count = int(a[0]) if a else 100000
+    rng = random.Random(int(a[1]) if len(a) > 1 else 1)
+    lib = door.load(door.build())
+    good = door.agree(lib)
+    began = time.time()
+    c = Comparison(lib, rng)
+
+    named = lists.boundaries()
+    for _, words in named:
+        c.compare(words)
+    for _ in range(count):
+        c.compare(any_list(rng))
+    print('%d lists, and %d with a name; the longest sheet has %d words; %.0f s' % (count, len(named), c.longest, time.time() - began))
+
+    began, calls = time.time(), c.calls
+    for words in million(rng):
+        c.compare(words)
+    triangle = lists.build(3, 0, 2, [(0, 1), (1, 2), (0, 2)])
+    c.call(triangle, packed(triangle), 10000000, reference.answer(triangle))
+    print('lists of 65,537 and of a million words, and an output of ten million: %d calls, %.0f s' % (c.calls - calls, time.time() - began))
+
+    # a count of 0 with a null pointer
+    calls = c.calls
+    for room in (0, 1, 100):
+        c.call([], b'', room, reference.answer([]), null_list=True)
+    c.call([], b'', 0, reference.answer([]), null_list=True, null_output=True)
+    for words in (triangle, triangle[:-1], [0, 0]):
+        c.call(words, packed(words), 0, reference.answer(words), null_output=True)
+    print('null pointers with a count of 0: %d calls' % (c.calls - calls))
+
+    # the largest stations, on the stack that the header asks for
+    calls = c.calls
+    threading.stack_size(STACK)
+    large = [words for name, words in named if '256 parts' in name]
+    answers = [reference.answer(words) for words in large]
+
+    def small():
+        for words, full in zip(large, answers):
+            c.call(words, packed(words), c.most, full)
+
+    thread = threading.Thread(target=small)
+    thread.start()
+    thread.join()
+    print('on a stack of %d bytes: %d calls' % (STACK, c.calls - calls))
+    good = good and c.calls - calls == len(large)
+
+    for name in sorted(c.tally):
+        print('%8d %s' % (c.tally[name], name))
+    print('%d calls, %d differ' % (c.calls, c.wrong))
+    return c.wrong > 0 or not good or c.longest != c.most
+
+
+if __name__ == '__main__':
+    sys.exit(main(sys.argv[1:]))
