@@ -26,7 +26,7 @@ use Rattle.hookup.specs.Reading.{endsBy, drawingOf}
 use Rattle.hookup.specs.Demand.{Form, Demand3, rowOf, Ordered}
 use Rattle.hookup.proofs.Drawn as drawn
 use Rattle.hookup.proofs.Drawn.{Sound, endsOf, fits, reads, meets, sizes}
-use Rattle.hookup.proofs.Rows.{parts-by-row, rank-row, below-is}
+use Rattle.hookup.proofs.PartRows.{parts-by-row, rank-row, bottom-rows}
 
 module _ (st : Station) (S : Sound st) where
   ends-at : (i : ℕ) → i < length (st .cables) → getD (endsOf st) i noEnds ≡ endsBy (order st) (getD (st .cables) i noCable)
@@ -90,7 +90,7 @@ module _ (list : List ℕ) (pass : Clear allChecks list) where
         smallest = subst (λ (l : List ℕ). Smallest st l) (sym e) (order-smallest st (list-orderable list pass));
         rows = λ k h.
             ap (λ (l : List ℕ). rowOf sheet (getD l k 0)) e
-            ∙ rank-row st sound k (omega (arith, order-ordering st (list-orderable list pass) .all)) ∙ ap (λ (d : ℕ). d + k) (below-is st sound);
+            ∙ rank-row st sound k (omega (arith, order-ordering st (list-orderable list pass) .all)) ∙ ap (λ (d : ℕ). d + k) (bottom-rows st sound);
       }
 
   -- every word has 32 bits

@@ -29,7 +29,7 @@ use Rattle.drawing.specs.Counts.{isCorner}
 use Rattle.drawing.proofs.Sized.{named, fits-renumbered, corner-words-renumbered, sizes-renumbered}
 use Rattle.layout.specs.Points.{bottomRows, topRows}
 use Rattle.layout.specs.Layout.{layout}
-use Rattle.layout.proofs.Rows.{bottomRows-le, topRows-le}
+use Rattle.layout.proofs.ExtraRows.{bottomRows-le, topRows-le}
 use Rattle.layout.proofs.Drawn as laid
 use Rattle.hookup.specs.Drawing.{drawingBy, drawing}
 use Rattle.hookup.specs.Reading.{endsBy, readBy}

@@ -9,7 +9,7 @@ use lib.Dec.{eqb, ltb}
 use Rattle.lists.proofs.Tests.{oneIf-le}
 use Rattle.order.specs.Graph.{StGraph, size, lower, upper, linesAt}
 use Rattle.layout.specs.Columns.{newLeft, newRight, newLast, moved, columnAt, columns}
-use Rattle.layout.proofs.Step.{cable, part, width, outs, ins, outPlace, inAt, took, lefts, rights, cable-start, width-start, cable-opened, cable-kept, length-cables, length-parts, part-kept, part-opened, width-suc, outPlace-below, took-none, took-comes, length-outgoing}
+use Rattle.layout.proofs.Step.{cable, part, width, outs, ins, outPlace, inAt, takenColumn, lefts, rights, cable-start, width-start, cable-opened, cable-kept, length-cables, length-parts, part-kept, part-opened, width-suc, outPlace-below, takenColumn-none, takenColumn-comes, length-outgoing}
 
 moved-le : (p a b x : ℕ) → moved p a b x ≤ x + a + b
 unfolding moved
@@ -50,12 +50,12 @@ module _ (G : StGraph) where
     pub parts : (j : ℕ) → part G k j ≤ 4 * k
     pub count : width G k ≤ 4 * k + 1
 
-  pub took-le : (k : ℕ) → Small k → took G k ≤ 4 * k
-  took-le k s = go (decLt 0 (ins G k))
+  pub takenColumn-le : (k : ℕ) → Small k → takenColumn G k ≤ 4 * k
+  takenColumn-le k s = go (decLt 0 (ins G k))
     where
-      go : Dec (0 < ins G k) → took G k ≤ 4 * k
-      go (yes h) = omega (arith, took-comes G k h, s .cables (inAt G k ((ins G k - 1) / 2)))
-      go (no h) = omega (arith, took-none G k (omega arith))
+      go : Dec (0 < ins G k) → takenColumn G k ≤ 4 * k
+      go (yes h) = omega (arith, takenColumn-comes G k h, s .cables (inAt G k ((ins G k - 1) / 2)))
+      go (no h) = omega (arith, takenColumn-none G k (omega arith))
 
   start : Small 0
   unfolding part columns
@@ -80,16 +80,16 @@ module _ (G : StGraph) where
         cables-next : (i : ℕ) → Dec (i < size G) → Dec (lower G i ≡ k) → cable G (suc k) i ≤ 4 * suc k
         cables-next i (no h) d = omega (arith, beyond (suc k) i (omega arith))
         cables-next i (yes h) (no d) =
-            omega (arith, cable-kept G k i h d, moved-le (took G k) (lefts G k) (rights G k) (cable G k i), lefts-le k, rights-le k, s .cables i)
+            omega (arith, cable-kept G k i h d, moved-le (takenColumn G k) (lefts G k) (rights G k) (cable G k i), lefts-le k, rights-le k, s .cables i)
         cables-next i (yes h) (yes d) =
-            let c = column-le (took G k) (width G k + lefts G k + rights G k) (outPlace G k i) (4 * suc k)
-            (omega (arith, took-le k s, outPlace-below G k i h d, outs-le k)) (omega (arith, lefts-le k, rights-le k, s .count)) in
+            let c = column-le (takenColumn G k) (width G k + lefts G k + rights G k) (outPlace G k i) (4 * suc k)
+            (omega (arith, takenColumn-le k s, outPlace-below G k i h d, outs-le k)) (omega (arith, lefts-le k, rights-le k, s .count)) in
             omega (arith, cable-opened G k i h d, c)
 
         parts-next : (j : ℕ) → Dec (j < k) → Dec (j ≡ k) → part G (suc k) j ≤ 4 * suc k
         parts-next j (yes h) d =
-            omega (arith, part-kept G k j h, moved-le (took G k) (lefts G k) (rights G k) (part G k j), lefts-le k, rights-le k, s .parts j)
-        parts-next j (no h) (yes d) = omega (arith, ap (part G (suc k)) d, part-opened G k, took-le k s, lefts-le k)
+            omega (arith, part-kept G k j h, moved-le (takenColumn G k) (lefts G k) (rights G k) (part G k j), lefts-le k, rights-le k, s .parts j)
+        parts-next j (no h) (yes d) = omega (arith, ap (part G (suc k)) d, part-opened G k, takenColumn-le k s, lefts-le k)
         parts-next j (no h) (no d) = omega (arith, parts-beyond (suc k) j (omega arith))
 
     pub small : (k : ℕ) → Small k

@@ -11,7 +11,7 @@ use Rattle.drawing.specs.Crossing.{crossesOver, linesCross}
 use Rattle.drawing.proofs.Crossing.{crossesOver-e, crossesOver-i}
 use Rattle.layout.specs.Over.{over}
 use Rattle.layout.proofs.Facts.{Facts}
-use Rattle.layout.proofs.Meet.{Over, overSpot, over-crosses, courseAt, lineOf, proper, crosses-over}
+use Rattle.layout.proofs.Meet.{Over, overSpot, over-crosses, courseAt, polyline, proper, crosses-over}
 
 over-e : (c d : Course) → over c d ≡ true → Over c d
 unfolding over
@@ -33,7 +33,7 @@ over-i c d O =
 module _ (G : StGraph) (x lo hi col row : ℕ → ℕ) (F : Facts G x lo hi col row) where
   pub crossesOver-over :
       (i j : ℕ) → i < size G → j < size G → (i ≡ j → ⊥)
-      → crossesOver (lineOf G x lo hi col row i) (lineOf G x lo hi col row j)
+      → crossesOver (polyline G x lo hi col row i) (polyline G x lo hi col row j)
       ≡ over (courseAt G x lo hi col row i) (courseAt G x lo hi col row j)
   crossesOver-over i j g h f =
       let c = courseAt G x lo hi col row i in
@@ -48,7 +48,7 @@ module _ (G : StGraph) (x lo hi col row : ℕ → ℕ) (F : Facts G x lo hi col 
 
   pub linesCross-over :
       (i j : ℕ) → i < size G → j < size G → (i ≡ j → ⊥)
-      → linesCross (lineOf G x lo hi col row i) (lineOf G x lo hi col row j)
+      → linesCross (polyline G x lo hi col row i) (polyline G x lo hi col row j)
       ≡ (over (courseAt G x lo hi col row i) (courseAt G x lo hi col row j)
       || over (courseAt G x lo hi col row j) (courseAt G x lo hi col row i))
   unfolding linesCross

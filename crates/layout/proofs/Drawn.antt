@@ -34,7 +34,7 @@ use Rattle.layout.specs.Points.{Course, turns, pointsOf, inner, cornersO
 use Rattle.layout.specs.Layout.{drawnIn, layout}
 use Rattle.layout.specs.Over.{over}
 use Rattle.layout.proofs.Turns.{turns-points}
-use Rattle.layout.proofs.Rows.{bottomRows-le, topRows-le}
+use Rattle.layout.proofs.ExtraRows.{bottomRows-le, topRows-le}
 use Rattle.layout.proofs.Placed.{facts}
 use Rattle.layout.proofs.Meet.{meetings}
 use Rattle.layout.proofs.Cross.{linesCross-over}

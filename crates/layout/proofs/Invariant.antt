@@ -11,7 +11,7 @@ use Rattle.layout.specs.Columns.{moved, columnAt}
 use Rattle.lists.proofs.Increasing.{Increasing, increasing-one, increasing-less}
 use Rattle.layout.proofs.Moved.{moved-increasing, moved-outside, moved-from-left, moved-from-right}
 use Rattle.layout.proofs.Ports.{Ports, ports, in-left, in-right}
-use Rattle.layout.proofs.Step.{cable-opened, cable-kept, part-kept, part-opened, width-start, length-outgoing, outPlace-below, outPlace-one, inPlace-below, inPlace-one, inAt-inPlace, inAt-comes, inAt-one, inAt-rises, took-none, took-comes}
+use Rattle.layout.proofs.Step.{cable-opened, cable-kept, part-kept, part-opened, width-start, length-outgoing, outPlace-below, outPlace-one, inPlace-below, inPlace-one, inAt-inPlace, inAt-comes, inAt-one, inAt-rises, takenColumn-none, takenColumn-comes}
 use Rattle.layout.proofs.Step as step
 
 module _ (G : StGraph) where
@@ -40,8 +40,8 @@ module _ (G : StGraph) where
   abbrev inAt : ℕ → ℕ → ℕ
   inAt = step.inAt G
 
-  abbrev took : ℕ → ℕ
-  took = step.took G
+  abbrev takenColumn : ℕ → ℕ
+  takenColumn = step.takenColumn G
 
   abbrev lefts : ℕ → ℕ
   lefts = step.lefts G
@@ -70,7 +70,7 @@ module _ (G : StGraph) where
     top : upper G i ≡ r → inPlace r i ≡ 3 → Passes i r
 
   -- the facts at rank r, which stands in column c, with the cables in the columns x
-  pub record Stands (x : ℕ → ℕ) (c r : ℕ) : Type 0 where
+  pub record RankFacts (x : ℕ → ℕ) (c r : ℕ) : Type 0 where
     pub passes : (i : ℕ) → i < size G → Passes i r → x i ≡ c → ⊥
     pub left : (i j : ℕ) → i < size G → j < size G → (i ≡ j → ⊥) → Meets i r → Meets j r → x i < c → x j < c → ⊥
     pub right : (i j : ℕ) → i < size G → j < size G → (i ≡ j → ⊥) → Meets i r → Meets j r → c < x i → c < x j → ⊥
@@ -85,7 +85,7 @@ module _ (G : StGraph) where
 
   pub record Invariant (k : ℕ) : Type 0 where
     pub apart : Apart k
-    pub stands : (r : ℕ) → r < k → Stands (cable k) (part k r) r
+    pub stands : (r : ℕ) → r < k → RankFacts (cable k) (part k r) r
 
   -- The facts survive a strictly increasing map
 
@@ -100,7 +100,7 @@ module _ (G : StGraph) where
     meets-old i h (inl l) = maps i h (omega arith)
     meets-old i h (inr e) = maps i h (omega (arith, rises i h))
 
-    pub stands-moved : (d : ℕ) → d ≡ f c → Stands x c r → Stands y d r
+    pub stands-moved : (d : ℕ) → d ≡ f c → RankFacts x c r → RankFacts y d r
     stands-moved d e S = record {
       passes = λ i h p q. S .passes i h p (increasing-one f inc (x i) c (sym (passes-old i h p) ∙ q ∙ e));
       left = λ i j h g n a b s t.
@@ -146,11 +146,11 @@ module _ (G : StGraph) where
 
     -- Outgoing cables: the first three in the block of columns from the one taken, the fourth right of it
 
-    leaves-at : (i : ℕ) → i < size G → Leaves i k → cable (suc k) i ≡ took k + outPlace k i
+    leaves-at : (i : ℕ) → i < size G → Leaves i k → cable (suc k) i ≡ takenColumn k + outPlace k i
     unfolding columnAt
     leaves-at i h l = cable-opened G k i h (l .0) ∙ rw (ne-eqb (outPlace k i) 3 (omega arith))
 
-    leaves-in : (i : ℕ) → i < size G → Leaves i k → cable (suc k) i ≤ took k + lefts k + rights k
+    leaves-in : (i : ℕ) → i < size G → Leaves i k → cable (suc k) i ≤ takenColumn k + lefts k + rights k
     leaves-in i h l =
         omega (arith, leaves-at i h l, table .wide (outPlace k i) (outPlace-below G k i h (l .0)) (l .1))
 
@@ -158,11 +158,11 @@ module _ (G : StGraph) where
     unfolding columnAt
     bottom-at i h e q = cable-opened G k i h e ∙ rw (eq-eqb (outPlace k i) 3 q)
 
-    bottom-out : (i : ℕ) → i < size G → lower G i ≡ k → outPlace k i ≡ 3 → took k + lefts k + rights k < cable (suc k) i
+    bottom-out : (i : ℕ) → i < size G → lower G i ≡ k → outPlace k i ≡ 3 → takenColumn k + lefts k + rights k < cable (suc k) i
     bottom-out i h e q =
         let z = fourth i h e q in
         let w : width k ≡ 1 = ap width (z .0) ∙ width-start G in
-        omega (arith, bottom-at i h e q, took-none G k (z .1))
+        omega (arith, bottom-at i h e q, takenColumn-none G k (z .1))
 
     -- of two outgoing cables
     outs-apart : (i j : ℕ) → i < size G → j < size G → lower G i ≡ k → lower G j ≡ k → cable (suc k) i ≡ cable (suc k) j → i ≡ j
@@ -177,7 +177,7 @@ module _ (G : StGraph) where
 
     -- Incoming cables, and those that pass
 
-    old : (i : ℕ) → i < size G → lower G i < k → cable (suc k) i ≡ moved (took k) (lefts k) (rights k) (cable k i)
+    old : (i : ℕ) → i < size G → lower G i < k → cable (suc k) i ≡ moved (takenColumn k) (lefts k) (rights k) (cable k i)
     old i h l = cable-kept G k i h (omega arith)
 
     entering : (i : ℕ) → i < size G → upper G i ≡ k → lower G i < k
@@ -186,7 +186,7 @@ module _ (G : StGraph) where
     some : (i : ℕ) → i < size G → upper G i ≡ k → 0 < ins k
     some i h e = omega (arith, inPlace-below G k i h e)
 
-    enters-left : (i : ℕ) → i < size G → Enters i k → cable k i < took k → inPlace k i < middle k
+    enters-left : (i : ℕ) → i < size G → Enters i k → cable k i < takenColumn k → inPlace k i < middle k
     enters-left i h e l = go (decLt (inPlace k i) (middle k))
       where
         go : Dec (inPlace k i < middle k) → inPlace k i < middle k
@@ -197,10 +197,10 @@ module _ (G : StGraph) where
               arith,
               inAt-rises G k (middle k) (inPlace k i) (omega arith) (inPlace-below G k i h (e .0)) (e .1),
               ap (cable k) (inAt-inPlace G k i h (e .0)),
-              took-comes G k (some i h (e .0)),
+              takenColumn-comes G k (some i h (e .0)),
             ))
 
-    enters-right : (i : ℕ) → i < size G → Enters i k → took k < cable k i → middle k < inPlace k i
+    enters-right : (i : ℕ) → i < size G → Enters i k → takenColumn k < cable k i → middle k < inPlace k i
     enters-right i h e l = go (decLt (middle k) (inPlace k i))
       where
         go : Dec (middle k < inPlace k i) → middle k < inPlace k i
@@ -211,7 +211,7 @@ module _ (G : StGraph) where
               arith,
               inAt-rises G k (inPlace k i) (middle k) (omega arith) (omega (arith, some i h (e .0))) (omega (arith, outs-ins)),
               ap (cable k) (inAt-inPlace G k i h (e .0)),
-              took-comes G k (some i h (e .0)),
+              takenColumn-comes G k (some i h (e .0)),
             ))
 
     -- A side of the part has one outgoing cable, at place s, where at most b come in, or one incoming, at place t, where more do
@@ -230,8 +230,8 @@ module _ (G : StGraph) where
         let b : outPlace k i < lefts k = omega (arith, leaves-at i h l, part-opened G k) in
         inl (l .0, omega (arith, table .one-left), table .new-left (omega arith))
     left-side i h (inr e) s =
-        let b : cable k i < took k =
-        moved-from-left (took k) (lefts k) (rights k) (cable k i) (omega (arith, old i h (entering i h (e .0)), part-opened G k)) in
+        let b : cable k i < takenColumn k =
+        moved-from-left (takenColumn k) (lefts k) (rights k) (cable k i) (omega (arith, old i h (entering i h (e .0)), part-opened G k)) in
         let q = in-left (ins k) (inPlace k i) (omega (arith, outs-ins)) (enters-left i h e b) in
         inr (e .0, q .0, q .1)
 
@@ -241,17 +241,17 @@ module _ (G : StGraph) where
         let q = table .new-right (outPlace k i) (outPlace-below G k i h (l .0)) (l .1) b in
         inl (l .0, q .1, q .0)
     right-side i h (inr e) s =
-        let b : took k < cable k i =
-        moved-from-right (took k) (lefts k) (rights k) (cable k i) (omega (arith, old i h (entering i h (e .0)), part-opened G k)) in
+        let b : takenColumn k < cable k i =
+        moved-from-right (takenColumn k) (lefts k) (rights k) (cable k i) (omega (arith, old i h (entering i h (e .0)), part-opened G k)) in
         let q = in-right (ins k) (inPlace k i) (omega (arith, outs-ins)) (inPlace-below G k i h (e .0)) (e .1) (enters-right i h e b) in
         inr (e .0, q .0, q .1)
 
     module _ (I : Invariant k) where
       -- a cable that is open at k and not at the taken place is not in the column taken
-      aside : (i : ℕ) → i < size G → lower G i < k → k ≤ upper G i → (upper G i ≡ k → inPlace k i ≡ middle k → ⊥) → cable k i ≡ took k → ⊥
+      aside : (i : ℕ) → i < size G → lower G i < k → k ≤ upper G i → (upper G i ≡ k → inPlace k i ≡ middle k → ⊥) → cable k i ≡ takenColumn k → ⊥
       aside i h l u d e =
           I .apart i (inAt k (middle k)) h (there .0) other l (omega (arith, R .rises _ (there .0), there .1)) (omega (arith, there .1))
-          (omega (arith, R .rises _ (there .0), there .1)) (e ∙ took-comes G k (entered (omega arith)))
+          (omega (arith, R .rises _ (there .0), there .1)) (e ∙ takenColumn-comes G k (entered (omega arith)))
         where
           there : (inAt k (middle k) < size G) × (upper G (inAt k (middle k)) ≡ k)
           there = inAt-comes G k (middle k) (omega (arith, entered (omega arith)))
@@ -265,18 +265,18 @@ module _ (G : StGraph) where
 
       -- so it is moved out of the block
       aside-out : (i : ℕ) → i < size G → lower G i < k → k ≤ upper G i → (upper G i ≡ k → inPlace k i ≡ middle k → ⊥)
-          → took k ≤ cable (suc k) i → cable (suc k) i ≤ took k + lefts k + rights k → ⊥
+          → takenColumn k ≤ cable (suc k) i → cable (suc k) i ≤ takenColumn k + lefts k + rights k → ⊥
       aside-out i h l u d s t =
-          moved-outside (took k) (lefts k) (rights k) (cable k i) (aside i h l u d)
+          moved-outside (takenColumn k) (lefts k) (rights k) (cable k i) (aside i h l u d)
           (omega (arith, old i h l)) (omega (arith, old i h l))
 
       passes-out : (i : ℕ) → i < size G → Passes i k
-          → took k ≤ cable (suc k) i → cable (suc k) i ≤ took k + lefts k + rights k → ⊥
+          → takenColumn k ≤ cable (suc k) i → cable (suc k) i ≤ takenColumn k + lefts k + rights k → ⊥
       passes-out i h (by l u) = aside-out i h l (omega arith) (λ e q. omega arith)
       passes-out i h (bottom e q) = λ s t. omega (arith, bottom-out i h e q)
       passes-out i h (top e q) = aside-out i h (entering i h e) (omega arith) (λ f r. omega (arith, outs-ins))
 
-      stands-new : Stands (cable (suc k)) (part (suc k) k) k
+      stands-new : RankFacts (cable (suc k)) (part (suc k) k) k
       stands-new = record {
         passes = λ i h p q. passes-out i h p (omega (arith, part-opened G k)) (omega (arith, part-opened G k));
         left = λ i j h g d a b s t. d (one-side 0 0 2 i j h g (left-side i h a s) (left-side j g b t));
@@ -306,16 +306,16 @@ module _ (G : StGraph) where
           go (no e) (yes f) = opens-apart j i g h f (omega arith) (omega arith) (sym q)
           go (no e) (no f) =
               I .apart i j h g d (omega arith) (omega arith) u v
-              (increasing-one _ (moved-increasing (took k) (lefts k) (rights k)) _ _
+              (increasing-one _ (moved-increasing (takenColumn k) (lefts k) (rights k)) _ _
               (sym (old i h (omega arith)) ∙ q ∙ old j g (omega arith)))
 
       pub next : Invariant (suc k)
       next = record { apart = apart-next; stands = λ r h. go r h (decLt r k) }
         where
-          go : (r : ℕ) → r < suc k → Dec (r < k) → Stands (cable (suc k)) (part (suc k) r) r
+          go : (r : ℕ) → r < suc k → Dec (r < k) → RankFacts (cable (suc k)) (part (suc k) r) r
           go r h (yes l) =
-              stands-moved (R .rises) (moved (took k) (lefts k) (rights k)) (cable k) (cable (suc k))
-              (moved-increasing (took k) (lefts k) (rights k)) (part k r) r
+              stands-moved (R .rises) (moved (takenColumn k) (lefts k) (rights k)) (cable k) (cable (suc k))
+              (moved-increasing (takenColumn k) (lefts k) (rights k)) (part k r) r
               (λ i b c. old i b (omega arith)) (part (suc k) r) (part-kept G k r l) (I .stands r l)
           go r h (no l) =
               let e : r ≡ k = omega arith in

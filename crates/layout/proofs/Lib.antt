@@ -10,7 +10,7 @@ pub mod NewColumns
 pub mod Width
 pub mod Own
 pub mod Turns
-pub mod Rows
+pub mod ExtraRows
 pub mod Sizes
 pub mod Segments
 pub mod Line

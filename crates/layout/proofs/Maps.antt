@@ -6,7 +6,7 @@ use mathlib.Core.Logic.{_⊎_, inl, inr}
 use Rattle.order.specs.Graph.{StGraph, size, lower, upper}
 use Rattle.drawing.specs.Lines.{Meetings}
 use Rattle.layout.proofs.Facts.{Facts}
-use Rattle.layout.proofs.Meet.{lineOf, meetings}
+use Rattle.layout.proofs.Meet.{polyline, meetings}
 use Rattle.lists.proofs.Increasing.{Increasing, increasing-one, increasing-less, increasing-le}
 
 module _ (f : ℕ → ℕ) (inc : Increasing f) where
@@ -49,7 +49,7 @@ module _ (f g : ℕ → ℕ) (mf : Increasing f) (mg : Increasing g) where
   pub meetings-map :
       (G : StGraph) (x lo hi col row : ℕ → ℕ) → Facts G x lo hi col row
       → Meetings (G .parts) (size G) (λ k. record { x = f (col k); y = g (row k) }) (lower G) (upper G)
-      (lineOf G (λ i. f (x i)) (λ i. g (lo i)) (λ i. g (hi i)) (λ k. f (col k)) (λ k. g (row k)))
+      (polyline G (λ i. f (x i)) (λ i. g (lo i)) (λ i. g (hi i)) (λ k. f (col k)) (λ k. g (row k)))
   meetings-map G x lo hi col row F =
       meetings G (λ i. f (x i)) (λ i. g (lo i)) (λ i. g (hi i)) (λ k. f (col k)) (λ k. g (row k))
       (facts-map G x lo hi col row F)

@@ -47,8 +47,8 @@ module _ (G : StGraph) (x lo hi col row : ℕ → ℕ) where
   abbrev pub courseAt : ℕ → Course
   courseAt i = record { from = spotAt (lower G i); low = lo i; column = x i; high = hi i; to = spotAt (upper G i) }
 
-  abbrev pub lineOf : ℕ → List Spot
-  lineOf i = pointsOf (courseAt i)
+  abbrev pub polyline : ℕ → List Spot
+  polyline i = pointsOf (courseAt i)
 
   -- s is the spot of a part that both join
   abbrev pub Common : ℕ → ℕ → Spot → Type 0
@@ -222,18 +222,18 @@ module _ (G : StGraph) (x lo hi col row : ℕ → ℕ) where
           let e : upper G j ≡ upper G i = omega (arith, F .inside j h, rank-le (upper G i) (upper G j) (F .inside i g) (omega (arith, u .floor))) in
           (upper G i, inr refl, inr (sym e), spot-path (sym (u .column)) (omega (arith, ap row e, u .floor)))
 
-    line : (i : ℕ) (l : i < size G) → Drawn (courseAt i) (lineOf i)
+    line : (i : ℕ) (l : i < size G) → Drawn (courseAt i) (polyline i)
     line i l = drawn (courseAt i) (proper i l)
 
     -- a part's spot is a point of the cables that join it
-    no-common : (i j : ℕ) → i < size G → (s : Spot) → NoPoint (lineOf i) s → Common i j s → ⊥
+    no-common : (i j : ℕ) → i < size G → (s : Spot) → NoPoint (polyline i) s → Common i j s → ⊥
     no-common i j l s N (k, inl e, b, r) =
-        N 0 (omega (arith, line-two (courseAt i) (lineOf i) (proper i l) (line i l)))
-        (line-starts (courseAt i) (lineOf i) (proper i l) (line i l) ∙ ap spotAt (sym e) ∙ r)
+        N 0 (omega (arith, line-two (courseAt i) (polyline i) (proper i l) (line i l)))
+        (line-starts (courseAt i) (polyline i) (proper i l) (line i l) ∙ ap spotAt (sym e) ∙ r)
     no-common i j l s N (k, inr e, b, r) =
-        let t = line-two (courseAt i) (lineOf i) (proper i l) (line i l) in
-        N (length (lineOf i) - 1) (omega arith)
-        (line-ends (courseAt i) (lineOf i) (proper i l) (line i l) (length (lineOf i) - 1) (omega arith) ∙ ap spotAt (sym e) ∙ r)
+        let t = line-two (courseAt i) (polyline i) (proper i l) (line i l) in
+        N (length (polyline i) - 1) (omega arith)
+        (line-ends (courseAt i) (polyline i) (proper i l) (line i l) (length (polyline i) - 1) (omega arith) ∙ ap spotAt (sym e) ∙ r)
 
     place-low : (i : ℕ) → i < size G → (s : Spot) → Place (courseAt i) s → lo i ≤ s .y
     place-low i l s (low h) = omega (arith, h .row)
@@ -254,10 +254,10 @@ module _ (G : StGraph) (x lo hi col row : ℕ → ℕ) where
       f′ e = f (sym e)
 
       -- a crossing is the upper level of one over the column of the other
-      pub crosses-over : CrossesOver (lineOf i) (lineOf j) s → Over (courseAt i) (courseAt j) × (s ≡ overSpot (courseAt i) (courseAt j))
+      pub crosses-over : CrossesOver (polyline i) (polyline j) s → Over (courseAt i) (courseAt j) × (s ≡ overSpot (courseAt i) (courseAt j))
       crosses-over X =
-          go (level-lane (courseAt i) (lineOf i) (proper i g) (line i g) s (X .level))
-          (upright-column (courseAt j) (lineOf j) (proper j h) (line j h) s (X .upright) (X .free-second))
+          go (level-lane (courseAt i) (polyline i) (proper i g) (line i g) s (X .level))
+          (upright-column (courseAt j) (polyline j) (proper j h) (line j h) s (X .upright) (X .free-second))
         where
           go :
               Low (courseAt i) s ⊎ High (courseAt i) s → Column (courseAt j) s
@@ -271,15 +271,15 @@ module _ (G : StGraph) (x lo hi col row : ℕ → ℕ) where
 
     -- the upper level of one over the column of the other is a crossing
     over-at :
-        (i j : ℕ) → i < size G → j < size G → (i ≡ j → ⊥) → (s : Spot) → High (courseAt i) s → Inner (courseAt j) s → CrossesOver (lineOf i) (lineOf j) s
+        (i j : ℕ) → i < size G → j < size G → (i ≡ j → ⊥) → (s : Spot) → High (courseAt i) s → Inner (courseAt j) s → CrossesOver (polyline i) (polyline j) s
     over-at i j g h f s u v =
-        subst (CrossesOver (lineOf i) (lineOf j)) (spot-path (sym (v .column)) (sym (u .row)))
+        subst (CrossesOver (polyline i) (polyline j)) (spot-path (sym (v .column)) (sym (u .row)))
         (over-crosses (courseAt i) (courseAt j) (proper i g) (proper j h) (high-inner i j g h f s u v))
 
     -- a spot on both lines is a crossing, or a common part's
     met :
         (i j : ℕ) → i < size G → j < size G → (i ≡ j → ⊥) → (j ≡ i → ⊥) → (s : Spot) → Place (courseAt i) s → Place (courseAt j) s
-        → CrossingAt (lineOf i) (lineOf j) s ⊎ Common i j s
+        → CrossingAt (polyline i) (polyline j) s ⊎ Common i j s
     met i j g h f f′ s (dip u) q = inr (dip-any i j g h f s u (place-low j h s q))
     met i j g h f f′ s (climb u) q = inr (climb-any i j g h f s u (place-high j h s q))
     met i j g h f f′ s (low u) (dip v) = inr (flip j i s (dip-any j i h g f′ s v (place-low i g s (low u))))
@@ -302,7 +302,7 @@ module _ (G : StGraph) (x lo hi col row : ℕ → ℕ) where
     one-way i j o p = omega (arith, o .high, p .high)
 
     once :
-        (i j : ℕ) → i < size G → j < size G → (i ≡ j → ⊥) → (s r : Spot) → CrossingAt (lineOf i) (lineOf j) s → CrossingAt (lineOf i) (lineOf j) r → s ≡ r
+        (i j : ℕ) → i < size G → j < size G → (i ≡ j → ⊥) → (s r : Spot) → CrossingAt (polyline i) (polyline j) s → CrossingAt (polyline i) (polyline j) r → s ≡ r
     once i j g h f s r (inl p) (inl q) = crosses-over i j g h f s p .1 ∙ sym (crosses-over i j g h f r q .1)
     once i j g h f s r (inl p) (inr q) =
         absurd (one-way i j (crosses-over i j g h f s p .0) (crosses-over j i h g (λ e. f (sym e)) r q .0))
@@ -331,7 +331,7 @@ module _ (G : StGraph) (x lo hi col row : ℕ → ℕ) where
 -- the meeting theorem
 pub meetings :
     (G : StGraph) (x lo hi col row : ℕ → ℕ) → Facts G x lo hi col row
-    → Meetings (G .parts) (size G) (λ k. record { x = col k; y = row k }) (lower G) (upper G) (lineOf G x lo hi col row)
+    → Meetings (G .parts) (size G) (λ k. record { x = col k; y = row k }) (lower G) (upper G) (polyline G x lo hi col row)
 meetings G x lo hi col row F =
     record {
       starts = λ i l. line-starts (C i) (pointsOf (C i)) (P i l) (D i l);
@@ -361,5 +361,5 @@ meetings G x lo hi col row F =
     P : (i : ℕ) → i < size G → Proper (courseAt G x lo hi col row i)
     P = proper G x lo hi col row F
 
-    D : (i : ℕ) → i < size G → Drawn (courseAt G x lo hi col row i) (lineOf G x lo hi col row i)
+    D : (i : ℕ) → i < size G → Drawn (courseAt G x lo hi col row i) (polyline G x lo hi col row i)
     D i l = drawn (courseAt G x lo hi col row i) (P i l)

@@ -12,11 +12,11 @@ use Rattle.lists.specs.Select.{range, count}
 use Rattle.lists.proofs.Sums.{OneAt, count-each}
 use Rattle.order.specs.Graph.{StGraph, size, lower, upper, Ranked}
 use Rattle.layout.specs.Columns.{moved}
-use Rattle.layout.proofs.Step.{cable, part, outs, ins, outPlace, inAt, took, lefts, rights, cable-kept, part-kept, part-opened, outPlace-one, inAt-comes, took-comes}
+use Rattle.layout.proofs.Step.{cable, part, outs, ins, outPlace, inAt, takenColumn, lefts, rights, cable-kept, part-kept, part-opened, outPlace-one, inAt-comes, takenColumn-comes}
 use Rattle.lists.proofs.Increasing.{increasing-one}
 use Rattle.layout.proofs.Moved.{moved-increasing, moved-at}
 use Rattle.layout.proofs.Invariant.{invariant}
-use Rattle.layout.proofs.Width.{outAt, outAt-goes, outPlace-outAt, ports-at, comes-in, goes-out, table, opened-last, opened-near, took-below}
+use Rattle.layout.proofs.Width.{outAt, outAt-goes, outPlace-outAt, ports-at, comes-in, goes-out, table, opened-last, opened-near, takenColumn-below}
 
 module _ (G : StGraph) (H : Ranked G) where
   -- a cable's column once k ranks stand; the column that rank k takes, and its new columns left and right
@@ -24,7 +24,7 @@ module _ (G : StGraph) (H : Ranked G) where
   X k i = cable G k i
 
   abbrev P : ℕ → ℕ
-  P k = took G k
+  P k = takenColumn G k
 
   abbrev A : ℕ → ℕ
   A k = lefts G k
@@ -36,12 +36,12 @@ module _ (G : StGraph) (H : Ranked G) where
   pub takenCable : ℕ → ℕ
   takenCable k = inAt G k ((ins G k - 1) / 2)
 
-  taken-comes : (k : ℕ) → 0 < k → k < G .parts → (takenCable k < size G) × (upper G (takenCable k) ≡ k) × (took G k ≡ cable G k (takenCable k))
+  taken-comes : (k : ℕ) → 0 < k → k < G .parts → (takenCable k < size G) × (upper G (takenCable k) ≡ k) × (takenColumn G k ≡ cable G k (takenCable k))
   unfolding takenCable
   taken-comes k h l =
       let p : 0 < ins G k = comes-in G H k h l in
       let c = inAt-comes G k ((ins G k - 1) / 2) (omega arith) in
-      (c .0, c .1, took-comes G k p)
+      (c .0, c .1, takenColumn-comes G k p)
 
   -- what moved to one column was in one column
   one-column : (k x y : ℕ) → moved (P k) (A k) (B k) x ≡ moved (P k) (A k) (B k) y → x ≡ y
@@ -53,7 +53,7 @@ module _ (G : StGraph) (H : Ranked G) where
   lower-own k i h e = (go (ℕ-discrete (outPlace G k i) 3), back)
     where
       go : Dec (outPlace G k i ≡ 3) → X (suc k) i ≡ part G (suc k) k → outPlace G k i ≡ A k
-      go (yes c) q = absurd (omega (arith, opened-last G H k i h e c, part-opened G k, took-below G H k))
+      go (yes c) q = absurd (omega (arith, opened-last G H k i h e c, part-opened G k, takenColumn-below G H k))
       go (no c) q = omega (arith, opened-near G H k i h e c, part-opened G k)
 
       back : outPlace G k i ≡ A k → X (suc k) i ≡ part G (suc k) k

@@ -21,7 +21,7 @@ use Rattle.layout.proofs.Facts.{Facts}
 use Rattle.layout.proofs.Moved.{moved-none}
 use Rattle.layout.proofs.Step.{cable-kept, length-cables, outgoing-e, length-outgoing, outPlace-below, outPlace-one, inPlace-below, inPlace-one}
 use Rattle.layout.proofs.Step as step
-use Rattle.layout.proofs.Rows.{bottom-row, bottom-place, place-bottom, top-place, place-top}
+use Rattle.layout.proofs.ExtraRows.{bottom-row, bottom-place, place-bottom, top-place, place-top}
 use Rattle.layout.proofs.Invariant.{Leaves, Enters, Meets, Passes, by, bottom, top, Invariant, invariant, outs-ins, table, fourth}
 
 -- what a test of equality picks
@@ -115,7 +115,7 @@ module _ (G : StGraph) where
       last-cable i h =
           let t = table G R k (omega arith) .none last-outs in
           cable-kept G k i h (omega (arith, R .rises i h, R .inside i h))
-          ∙ moved-none (step.took G k) (step.lefts G k) (step.rights G k) (step.cable G k i) (t .0) (t .1)
+          ∙ moved-none (step.takenColumn G k) (step.lefts G k) (step.rights G k) (step.cable G k i) (t .0) (t .1)
 
       last-cables : columns G (suc k) .cables ≡ columns G k .cables
       unfolding step.cable

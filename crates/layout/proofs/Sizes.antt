@@ -21,7 +21,7 @@ use Rattle.layout.proofs.Step.{cable, part, width}
 use Rattle.layout.proofs.Width.{width-all, cable-below, part-below, reached}
 use Rattle.layout.proofs.Own.{lower-owns, upper-owns}
 use Rattle.layout.proofs.Turns.{differs, points-all, points-split, turns-points, corners-points, length-corners}
-use Rattle.layout.proofs.Rows.{bottom-count, top-count, bottom-row, top-row, top-some, bottomRows-le, topRows-le, differs-lane}
+use Rattle.layout.proofs.ExtraRows.{bottom-count, top-count, bottom-row, top-row, top-some, bottomRows-le, topRows-le, differs-lane}
 
 -- On plain numbers and tests
 

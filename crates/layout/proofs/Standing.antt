@@ -21,10 +21,10 @@ use Rattle.layout.specs.declared.placing.Placement.{Placement}
 use Rattle.layout.specs.Columns.{Columns, newLast, moved, columnAt, incoming, taken, step, columns}
 use Rattle.layout.specs.Arrays.{Given}
 use Rattle.layout.specs.Incidents.{at, Holds, Outgoing, Incoming}
-use Rattle.layout.specs.Placements.{ColumnsOf, PlacementOf, Stands, Room, movedBy, cableBy}
+use Rattle.layout.specs.Placements.{ColumnsOf, PlacementOf, PlacedAt, PlacementFits, movedBy, cableBy}
 use Rattle.layout.proofs.Insertion.{lines-held, keys-held}
-use Rattle.layout.proofs.Step.{cable, part, width, took, outs, ins, lefts, rights, length-outgoing, length-incoming}
-use Rattle.layout.proofs.Bounds.{Small, small, took-le, lefts-le, rights-le}
+use Rattle.layout.proofs.Step.{cable, part, width, takenColumn, outs, ins, lefts, rights, length-outgoing, length-incoming}
+use Rattle.layout.proofs.Bounds.{Small, small, takenColumn-le, lefts-le, rights-le}
 
 -- The columns once a rank stands that opens the lines l, by equals
 
@@ -72,7 +72,7 @@ module _ {G : StGraph} (R : Ranked G) where
 
 -- Where rank k stands
 
-module _ {G : StGraph} {k : ℕ} {p : Placement} (q : Stands G k p) where
+module _ {G : StGraph} {k : ℕ} {p : Placement} (q : PlacedAt G k p) where
   left-same : p .left ≡ lefts G k
   unfolding lefts ins outs
   left-same = q .left
@@ -88,7 +88,7 @@ module _ {G : StGraph} {k : ℕ} {p : Placement} (q : Stands G k p) where
 module _ {g : Graph} (v : Given g) {k : ℕ} {c : code-columns.Columns} (s : ColumnsOf g k c) where
   pub stands :
       {ins outs : Incident} {p : Placement} → Outgoing (graphIn g .lowers) (graphIn g .uppers) k outs
-      → Incoming (graphIn g .uppers) (take (g .cables) (c .cables)) k ins → PlacementOf ins outs (c .count) p → Stands (graphIn g) k p
+      → Incoming (graphIn g .uppers) (take (g .cables) (c .cables)) k ins → PlacementOf ins outs (c .count) p → PlacedAt (graphIn g) k p
   unfolding taken
   stands {ins} ho hi e =
       let xs = take (g .cables) (c .cables) in
@@ -124,11 +124,11 @@ module _ {g : Graph} (v : Given g) {k : ℕ} {c : code-columns.Columns} (s : Col
         let e : getD (c .parts) i 0 ≡ part (graphIn g) k i = sym (getD-take k (c .parts) i 0 h) ∙ ap (λ (l : List ℕ). getD l i 0) (s .parts) in
         omega (arith, now-small .parts i, v .most)
 
-    module _ {p : Placement} (q : Stands (graphIn g) k p) where
-      pub room : Room p
-      unfolding took
+    module _ {p : Placement} (q : PlacedAt (graphIn g) k p) where
+      pub room : PlacementFits p
+      unfolding takenColumn
       room = record {
-        column = omega (arith, q .column, took-le (graphIn g) k now-small, v .most);
+        column = omega (arith, q .column, takenColumn-le (graphIn g) k now-small, v .most);
         left = omega (arith, left-same q, lefts-le (graphIn g) k);
         right = omega (arith, right-same q, rights-le (graphIn g) k);
       }
@@ -138,7 +138,7 @@ module _ {g : Graph} (v : Given g) {k : ℕ} {c : code-columns.Columns} (s : Col
 
 -- The columns once rank k stands
 
-module _ {g : Graph} {k : ℕ} {c : code-columns.Columns} (s : ColumnsOf g k c) {p : Placement} (q : Stands (graphIn g) k p) where
+module _ {g : Graph} {k : ℕ} {c : code-columns.Columns} (s : ColumnsOf g k c) {p : Placement} (q : PlacedAt (graphIn g) k p) where
   pub columns-next :
       {ys qs : List ℕ} {n : ℕ} → g .cables ≡ size (graphIn g)
       → take (size (graphIn g)) ys ≡ tabulate (size (graphIn g)) (cableBy (graphIn g .lowers) k p (c .cables))

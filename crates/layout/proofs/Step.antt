@@ -213,8 +213,8 @@ module _ (G : StGraph) where
   unfoldable pub inAt : ℕ → ℕ → ℕ
   inAt k j = getD (incoming G (columns G k .cables) k) j 0
 
-  unfoldable pub took : ℕ → ℕ
-  took k = taken G (columns G k .cables) k
+  unfoldable pub takenColumn : ℕ → ℕ
+  takenColumn k = taken G (columns G k .cables) k
 
   unfoldable pub lefts : ℕ → ℕ
   lefts k = oneIf (newLeft (ins k) (outs k))
@@ -234,12 +234,12 @@ module _ (G : StGraph) where
 
   -- The state once rank k stands
 
-  pub cable-opened : (k i : ℕ) → i < size G → lower G i ≡ k → cable (suc k) i ≡ columnAt (took k) (width k + lefts k + rights k) (outPlace k i)
-  unfolding cable columns step took width lefts rights outPlace ins outs
+  pub cable-opened : (k i : ℕ) → i < size G → lower G i ≡ k → cable (suc k) i ≡ columnAt (takenColumn k) (width k + lefts k + rights k) (outPlace k i)
+  unfolding cable columns step takenColumn width lefts rights outPlace ins outs
   cable-opened k i h e = getD-tabulate (size G) _ i 0 h ∙ rw (eq-eqb (lower G i) k e)
 
-  pub cable-kept : (k i : ℕ) → i < size G → (lower G i ≡ k → ⊥) → cable (suc k) i ≡ moved (took k) (lefts k) (rights k) (cable k i)
-  unfolding cable columns step took width lefts rights outPlace ins outs
+  pub cable-kept : (k i : ℕ) → i < size G → (lower G i ≡ k → ⊥) → cable (suc k) i ≡ moved (takenColumn k) (lefts k) (rights k) (cable k i)
+  unfolding cable columns step takenColumn width lefts rights outPlace ins outs
   cable-kept k i h n = getD-tabulate (size G) _ i 0 h ∙ rw (ne-eqb (lower G i) k n)
 
   pub length-cables : (k : ℕ) → length (columns G k .cables) ≡ size G
@@ -252,12 +252,12 @@ module _ (G : StGraph) where
   length-parts zero = refl
   length-parts (suc k) = length-more _ (columns G k .parts) _ ∙ ap suc (length-parts k)
 
-  pub part-kept : (k j : ℕ) → j < k → part (suc k) j ≡ moved (took k) (lefts k) (rights k) (part k j)
-  unfolding part columns step took lefts rights ins outs
+  pub part-kept : (k j : ℕ) → j < k → part (suc k) j ≡ moved (takenColumn k) (lefts k) (rights k) (part k j)
+  unfolding part columns step takenColumn lefts rights ins outs
   part-kept k j h = getD-more _ (columns G k .parts) _ j k (length-parts k) h
 
-  pub part-opened : (k : ℕ) → part (suc k) k ≡ took k + lefts k
-  unfolding part columns step took lefts rights ins outs
+  pub part-opened : (k : ℕ) → part (suc k) k ≡ takenColumn k + lefts k
+  unfolding part columns step takenColumn lefts rights ins outs
   part-opened k = getD-last _ (columns G k .parts) _ k (length-parts k)
 
   pub width-suc : (k : ℕ) → width (suc k) ≡ width k + lefts k + rights k + oneIf (newLast (outs k))
@@ -310,14 +310,14 @@ module _ (G : StGraph) where
       let xs = columns G k .cables in
       incoming-rises xs k a b h (omega (arith, length-incoming xs k)) l
 
-  pub took-none : (k : ℕ) → ins k ≡ 0 → took k ≡ 0
-  unfolding took taken ins
-  took-none k e =
+  pub takenColumn-none : (k : ℕ) → ins k ≡ 0 → takenColumn k ≡ 0
+  unfolding takenColumn taken ins
+  takenColumn-none k e =
       let xs = columns G k .cables in
       getD-none (λ i. getD xs i 0) (incoming G xs k) _ (ins k) (length-incoming xs k) e
 
-  pub took-comes : (k : ℕ) → 0 < ins k → took k ≡ cable k (inAt k ((ins k - 1) / 2))
-  unfolding took taken ins inAt cable takenPlace
-  took-comes k h =
+  pub takenColumn-comes : (k : ℕ) → 0 < ins k → takenColumn k ≡ cable k (inAt k ((ins k - 1) / 2))
+  unfolding takenColumn taken ins inAt cable takenPlace
+  takenColumn-comes k h =
       let xs = columns G k .cables in
       getD-half (λ i. getD xs i 0) (incoming G xs k) (ins k) (length-incoming xs k) h

@@ -14,7 +14,7 @@ use Rattle.lists.proofs.Tests.{oneIf-le}
 use Rattle.lists.proofs.Sums.{count-key, count-all, count-none}
 use Rattle.order.specs.Graph.{StGraph, size, lower, upper, linesAt, Ranked}
 use Rattle.layout.specs.Columns.{newRight, newLast, moved, outgoing, columns}
-use Rattle.layout.proofs.Step.{outgoing-e, length-outgoing, distinct-outgoing, cable, part, width, outs, ins, outPlace, inAt, took, lefts, rights, cable-start, width-start, cable-opened, cable-kept, length-cables, part-kept, part-opened, width-suc, outPlace-below, inPlace-below, took-none, took-comes}
+use Rattle.layout.proofs.Step.{outgoing-e, length-outgoing, distinct-outgoing, cable, part, width, outs, ins, outPlace, inAt, takenColumn, lefts, rights, cable-start, width-start, cable-opened, cable-kept, length-cables, part-kept, part-opened, width-suc, outPlace-below, inPlace-below, takenColumn-none, takenColumn-comes}
 use Rattle.layout.proofs.Moved.{moved-left, moved-right, moved-none}
 use Rattle.layout.proofs.Ports.{Ports, ports}
 use Rattle.layout.proofs.NewColumns.{new-columns, last-four, last-other, columnAt-last, columnAt-near, moved-le}
@@ -148,26 +148,26 @@ module _ (G : StGraph) (H : Ranked G) where
       → (lasts G k ≡ 1) × (cable G (suc k) i ≡ W k + A k + B k)
   opened-last k i h e q = (
     lasts-four k (omega (arith, degree k, outPlace-below G k i h e)),
-    cable-opened G k i h e ∙ rw q (columnAt-last (took G k) (W k + A k + B k)),
+    cable-opened G k i h e ∙ rw q (columnAt-last (takenColumn G k) (W k + A k + B k)),
   )
 
   pub opened-near :
       (k i : ℕ) → i < size G → lower G i ≡ k → (outPlace G k i ≡ 3 → ⊥)
-      → (outPlace G k i ≤ A k + B k) × (cable G (suc k) i ≡ took G k + outPlace G k i)
+      → (outPlace G k i ≤ A k + B k) × (cable G (suc k) i ≡ takenColumn G k + outPlace G k i)
   opened-near k i h e q =
       let b : outPlace G k i < O k = outPlace-below G k i h e in (
         ports-at k .wide (outPlace G k i) b (omega (arith, degree k)),
-        cable-opened G k i h e ∙ columnAt-near (took G k) (W k + A k + B k) (outPlace G k i) q,
+        cable-opened G k i h e ∙ columnAt-near (takenColumn G k) (W k + A k + B k) (outPlace G k i) q,
       )
 
   -- Every stored column is below the count, a cable's that is not opened too.
 
-  took-below-of : (k : ℕ) → ((i : ℕ) → cable G k i < W k) → took G k < W k
-  took-below-of k c = go (ℕ-discrete (ins G k) 0)
+  takenColumn-below-of : (k : ℕ) → ((i : ℕ) → cable G k i < W k) → takenColumn G k < W k
+  takenColumn-below-of k c = go (ℕ-discrete (ins G k) 0)
     where
-      go : Dec (ins G k ≡ 0) → took G k < W k
-      go (yes e) = omega (arith, took-none G k e, c 0)
-      go (no q) = omega (arith, took-comes G k (omega arith), c (inAt G k ((ins G k - 1) / 2)))
+      go : Dec (ins G k ≡ 0) → takenColumn G k < W k
+      go (yes e) = omega (arith, takenColumn-none G k e, c 0)
+      go (no q) = omega (arith, takenColumn-comes G k (omega arith), c (inAt G k ((ins G k - 1) / 2)))
 
   pub cable-below : (k i : ℕ) → cable G k i < W k
   cable-below zero i = go (decLt i (size G))
@@ -175,19 +175,19 @@ module _ (G : StGraph) (H : Ranked G) where
       go : Dec (i < size G) → cable G 0 i < W 0
       go (yes l) = omega (arith, cable-start G i l, width-start G)
       go (no l) = omega (arith, cable-none G 0 i (omega arith), width-start G)
-  cable-below (suc k) i = go (took-below-of k (λ j. cable-below k j)) (cable-below k i) (decLt i (size G)) (ℕ-discrete (lower G i) k) (ℕ-discrete (outPlace G k i) 3)
+  cable-below (suc k) i = go (takenColumn-below-of k (λ j. cable-below k j)) (cable-below k i) (decLt i (size G)) (ℕ-discrete (lower G i) k) (ℕ-discrete (outPlace G k i) 3)
     where
       go :
-          took G k < W k → cable G k i < W k → Dec (i < size G) → Dec (lower G i ≡ k) → Dec (outPlace G k i ≡ 3)
+          takenColumn G k < W k → cable G k i < W k → Dec (i < size G) → Dec (lower G i ≡ k) → Dec (outPlace G k i ≡ 3)
           → cable G (suc k) i < W (suc k)
       go t c (no l) d f = omega (arith, cable-none G (suc k) i (omega arith), width-grows G k)
       go t c (yes l) (yes e) (yes f) = omega (arith, opened-last k i l e f, width-grows G k)
       go t c (yes l) (yes e) (no f) = omega (arith, opened-near k i l e f, width-grows G k)
       go t c (yes l) (no e) f =
-          omega (arith, cable-kept G k i l e, width-grows G k, moved-le (took G k) (A k) (B k) (cable G k i))
+          omega (arith, cable-kept G k i l e, width-grows G k, moved-le (takenColumn G k) (A k) (B k) (cable G k i))
 
-  pub took-below : (k : ℕ) → took G k < W k
-  took-below k = took-below-of k (cable-below k)
+  pub takenColumn-below : (k : ℕ) → takenColumn G k < W k
+  takenColumn-below k = takenColumn-below-of k (cable-below k)
 
   pub part-below : (k j : ℕ) → j < k → part G k j < W k
   part-below zero j h = absurd (omega arith)
@@ -195,10 +195,10 @@ module _ (G : StGraph) (H : Ranked G) where
     where
       go : (j < k → part G k j < W k) → Dec (j < k) → part G (suc k) j < W (suc k)
       go below (yes l) =
-          omega (arith, below l, part-kept G k j l, width-grows G k, moved-le (took G k) (A k) (B k) (part G k j))
+          omega (arith, below l, part-kept G k j l, width-grows G k, moved-le (takenColumn G k) (A k) (B k) (part G k j))
       go below (no l) =
           let e : j ≡ k = omega arith in
-          rw e (omega (arith, took-below k, part-opened G k, width-grows G k))
+          rw e (omega (arith, takenColumn-below k, part-opened G k, width-grows G k))
 
   -- Once s stands, every column is that of an opened cable.
 
@@ -206,14 +206,14 @@ module _ (G : StGraph) (H : Ranked G) where
   Held k c = (i : ℕ) × (i < size G) × (lower G i < k) × (cable G k i ≡ c)
 
   -- a column that was held is held where it moved to
-  held-kept : (k c : ℕ) → Held k c → Held (suc k) (moved (took G k) (A k) (B k) c)
+  held-kept : (k c : ℕ) → Held k c → Held (suc k) (moved (takenColumn G k) (A k) (B k) c)
   held-kept k c (i, l, o, e) =
-      (i, l, omega arith, cable-kept G k i l (λ q. omega arith) ∙ ap (moved (took G k) (A k) (B k)) e)
+      (i, l, omega arith, cable-kept G k i l (λ q. omega arith) ∙ ap (moved (takenColumn G k) (A k) (B k)) e)
 
   held-cast : (k c d : ℕ) → c ≡ d → Held k c → Held k d
   held-cast k c d q (i, l, o, e) = (i, l, o, e ∙ q)
 
-  held-near : (k j : ℕ) → j < outs G k → (j ≡ 3 → ⊥) → Held (suc k) (took G k + j)
+  held-near : (k j : ℕ) → j < outs G k → (j ≡ 3 → ⊥) → Held (suc k) (takenColumn G k + j)
   held-near k j h q =
       let g = outAt-goes G k j h in
       let e = outPlace-outAt G k j h in
@@ -225,11 +225,11 @@ module _ (G : StGraph) (H : Ranked G) where
       let g = outAt-goes G k 3 l in
       (outAt G k 3, g .0, omega arith, opened-last k (outAt G k 3) (g .0) (g .1) (outPlace-outAt G k 3 l) .1)
 
-  held-suc : (k : ℕ) → 0 < outs G k → ((c : ℕ) → c < W k → (c ≡ took G k → ⊥) → Held k c) → (c : ℕ) → c < W (suc k) → Held (suc k) c
-  held-suc k h old c l = go (took-below k) (decLt c p) (decLt (p + A k + B k) c) (decLt c (W k + A k + B k))
+  held-suc : (k : ℕ) → 0 < outs G k → ((c : ℕ) → c < W k → (c ≡ takenColumn G k → ⊥) → Held k c) → (c : ℕ) → c < W (suc k) → Held (suc k) c
+  held-suc k h old c l = go (takenColumn-below k) (decLt c p) (decLt (p + A k + B k) c) (decLt c (W k + A k + B k))
     where
       p : ℕ
-      p = took G k
+      p = takenColumn G k
 
       go : p < W k → Dec (c < p) → Dec (p + A k + B k < c) → Dec (c < W k + A k + B k) → Held (suc k) c
       go t (yes u) d f = held-cast (suc k) _ c (moved-left p (A k) (B k) c u) (held-kept k c (old c (omega arith) (λ q. omega arith)))
@@ -246,11 +246,11 @@ module _ (G : StGraph) (H : Ranked G) where
           last (no e) = absurd (omega (arith, lasts-other k e, width-grows G k))
 
   pub reached : 2 ≤ G .parts → (k c : ℕ) → c < W (suc k) → (i : ℕ) × (i < size G) × (lower G i < suc k) × (cable G (suc k) i ≡ c)
-  reached two zero c h = held-suc 0 (goes-out 0 two) (λ d l q. absurd (omega (arith, took-below 0, width-start G))) c h
+  reached two zero c h = held-suc 0 (goes-out 0 two) (λ d l q. absurd (omega (arith, takenColumn-below 0, width-start G))) c h
   reached two (suc k) c h = go (λ d l. reached two k d l) (ℕ-discrete (O (suc k)) 0)
     where
       go : ((d : ℕ) → d < W (suc k) → Held (suc k) d) → Dec (O (suc k) ≡ 0) → Held (suc (suc k)) c
       go old (yes e) =
-          held-cast (suc (suc k)) _ c (moved-none (took G (suc k)) (A (suc k)) (B (suc k)) c (ports-at (suc k) .none e .0) (ports-at (suc k) .none e .1))
+          held-cast (suc (suc k)) _ c (moved-none (takenColumn G (suc k)) (A (suc k)) (B (suc k)) c (ports-at (suc k) .none e .0) (ports-at (suc k) .none e .1))
           (held-kept (suc k) c (old c (omega (arith, width-ends (suc k) e))))
       go old (no e) = held-suc (suc k) (omega arith) (λ d l q. old d l) c h

@@ -30,7 +30,7 @@ pub record PlacementOf (ins outs : Incident) (n : ℕ) (p : Placement) : Type 0 
   pub last : p .last ≡ n + p .left + p .right
 
 -- where rank k stands
-pub record Stands (G : StGraph) (k : ℕ) (p : Placement) : Type 0 where
+pub record PlacedAt (G : StGraph) (k : ℕ) (p : Placement) : Type 0 where
   pub opens : Holds (upper G) (p .outs) (outgoing G k)
   pub column : p .column ≡ taken G (columns G k .cables) k
   pub left : p .left ≡ oneIf (newLeft (length (linesAt (size G) (upper G) k)) (length (outgoing G k)))
@@ -38,7 +38,7 @@ pub record Stands (G : StGraph) (k : ℕ) (p : Placement) : Type 0 where
   pub last : p .last ≡ columns G k .count + p .left + p .right
 
 -- the columns next to where a rank stands are within 16 bits
-pub record Room (p : Placement) : Type 0 where
+pub record PlacementFits (p : Placement) : Type 0 where
   pub column : p .column < 32768
   pub left : p .left ≤ 1
   pub right : p .right ≤ 1

@@ -20,7 +20,7 @@ ghost use Rattle.order.specs.Arrays.{graphIn};
 ghost use Rattle.layout.specs.Columns.{newLeft, newRight, moved};
 ghost use Rattle.layout.specs.Arrays.{Given};
 ghost use Rattle.layout.specs.Incidents.{linesIn};
-ghost use Rattle.layout.specs.Placements.{ColumnsOf, PlacementOf, Stands, Room, movedBy, openedBy, cableBy};
+ghost use Rattle.layout.specs.Placements.{ColumnsOf, PlacementOf, PlacedAt, PlacementFits, movedBy, openedBy, cableBy};
 
 // Where a rank stands: its outgoing cables, the column that it takes, how many new ones come directly left and directly right of it, and the column
 // right of all.
@@ -70,7 +70,7 @@ fn placement_at(graph: Graph, k: u16, columns: Columns) -> Placement
     requires { ⌜ Given graph ⌝ }
     requires { ⌜ k < graph .parts ⌝ }
     requires { ⌜ ColumnsOf graph k columns ⌝ }
-    ensures { λ r. ⌜ Stands (graphIn graph) k r ⌝ }
+    ensures { λ r. ⌜ PlacedAt (graphIn graph) k r ⌝ }
 {
     let lower = graph.lower;
     let upper = graph.upper;
@@ -108,7 +108,7 @@ fn opened(placement: Placement, j: u16) -> u16
 
 // The column of a cable, once the rank stands that opens it or not.
 fn cable_column(placement: Placement, opens: bool, line: usize, x: u16) -> u16
-    requires { ⌜ Room placement ⌝ }
+    requires { ⌜ PlacementFits placement ⌝ }
     requires { ⌜ x < 32768 ⌝ }
     ensures { λ r. ⌜ r ≡ cond opens (openedBy placement (indexOf line (linesIn (placement .outs)))) (movedBy placement x) ⌝ }
 {
@@ -126,7 +126,7 @@ fn cables_after(
     placement: Placement,
     cables: [u16; MOST_CABLES],
 ) -> [u16; MOST_CABLES]
-    requires { ⌜ Room placement ⌝ }
+    requires { ⌜ PlacementFits placement ⌝ }
     requires { ⌜ length (now lower) ≤ mostCables ⌝ }
     requires { ⌜ ((i : ℕ) → i < length (now lower) → getD cables i 0 < 32768) ⌝ }
     ensures { λ r. ⌜ take (length (now (lower .entry))) r ≡ tabulate (length (now (lower .entry))) (cableBy (now (lower .entry)) k placement cables) ⌝ }
@@ -142,7 +142,7 @@ fn cables_after(
 
 // The columns of the parts once rank k stands.
 fn parts_after(placement: Placement, k: usize, parts: [u16; MOST_PARTS]) -> [u16; MOST_PARTS]
-    requires { ⌜ Room placement ⌝ }
+    requires { ⌜ PlacementFits placement ⌝ }
     requires { ⌜ k < mostParts ⌝ }
     requires { ⌜ ((i : ℕ) → i < k → getD parts i 0 < 32768) ⌝ }
     ensures { λ r. ⌜ take (k + 1) r ≡ map (movedBy placement) (take k parts) ++ (placement .column + placement .left) ∷ [] ⌝ }

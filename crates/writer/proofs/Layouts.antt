@@ -25,7 +25,7 @@ use Rattle.layout.specs.Points.{Course, cornersOf, row, partSpot, course, rankS
 use Rattle.layout.specs.Layout.{drawnIn, layout}
 use Rattle.layout.specs.Over.{over}
 use Rattle.layout.specs.Arrays.{courseIn, noCourse, Laid}
-use Rattle.layout.proofs.Rows.{bottomRows-le}
+use Rattle.layout.proofs.ExtraRows.{bottomRows-le}
 use Rattle.layout.proofs.Placed.{facts}
 use Rattle.layout.proofs.Cross.{linesCross-over}
 use Rattle.layout.proofs.Drawn.{CourseFits, parts-count, routes-count, spot-of, route-at, points-at, same-row, parts-le, words-count, column-fits, course-fits, fits}

@@ -89,13 +89,13 @@ fn put_corner(sheet: &mut [u32], at: usize, turns: bool, x: u16, y: u16) -> usiz
     at
 }
 
-fn both(a: bool, b: bool) -> bool
+fn conjunction(a: bool, b: bool) -> bool
     ensures { λ r. ⌜ r ≡ (a && b) ⌝ }
 {
     if a { b } else { false }
 }
 
-fn either(a: bool, b: bool) -> bool
+fn disjunction(a: bool, b: bool) -> bool
     ensures { λ r. ⌜ r ≡ (a || b) ⌝ }
 {
     if a { true } else { b }
@@ -109,8 +109,8 @@ fn put_corners(sheet: &mut [u32], at: usize, c: Course) -> usize
 {
     let dips = c.from.y != c.low;
     let shifts = c.from.x != c.column;
-    let second = put_corner(sheet, at, both(dips, shifts), c.from.x, c.low);
-    let third = put_corner(sheet, second, either(dips, shifts), c.column, c.low);
+    let second = put_corner(sheet, at, conjunction(dips, shifts), c.from.x, c.low);
+    let third = put_corner(sheet, second, disjunction(dips, shifts), c.column, c.low);
     let fourth = put_corner(sheet, third, c.column != c.to.x, c.column, c.high);
     put_corner(sheet, fourth, c.high != c.to.y, c.to.x, c.high)
 }

@@ -29,16 +29,16 @@ room-1 :
 room-1 k =
     let s = first k in
     let all = corner-count (courseIn (s .args .c)) (s .pre .0 .rises) in
-    room-left (k .before .both .result) (cornerWord (s .args .c .from .x) (s .args .c .low)) _ (k .put-corner .ensures)
-    (omega (arith, all, ap oneIf (k .before .both .ensures), s .pre .1))
+    room-left (k .before .conjunction .result) (cornerWord (s .args .c .from .x) (s .args .c .low)) _ (k .put-corner .ensures)
+    (omega (arith, all, ap oneIf (k .before .conjunction .ensures), s .pre .1))
 
 room-2 :
     (k : tie.After-put-corner2) → let c = courseIn (first (second k) .args .c) in
     k .put-corner2 .result + (oneIf (returns-to c) + oneIf (drops c)) ≤ length (k .put-corner2 .last .0)
 room-2 k =
     let c = first (second k) .args .c in
-    room-left (k .before .either .result) (cornerWord (c .column) (c .low)) _ (k .put-corner2 .ensures)
-    (omega (arith, room-1 (second k), ap oneIf (k .before .either .ensures)))
+    room-left (k .before .disjunction .result) (cornerWord (c .column) (c .low)) _ (k .put-corner2 .ensures)
+    (omega (arith, room-1 (second k), ap oneIf (k .before .disjunction .ensures)))
 
 room-3 :
     (k : tie.After-put-corner3) → let c = courseIn (first (second (third k)) .args .c) in
@@ -47,21 +47,21 @@ room-3 k =
     let c = courseIn (first (second (third k)) .args .c) in
     room-left (returns-to c) (cornerWord (c .column) (c .high)) _ (k .put-corner3 .ensures) (room-2 (third k))
 
-both-requires : tie.Need-both-requires
-both-requires c κs = search needs
+conjunction-requires : tie.Need-conjunction-requires
+conjunction-requires c κs = search needs
 
 put-corner-requires : tie.Need-put-corner-requires
 put-corner-requires c κs =
     let s = c .before .before .before .before .before in
-    omega (arith, corner-count (courseIn (s .args .c)) (s .pre .0 .rises), ap oneIf (c .both .ensures), s .pre .0, s .pre .1)
+    omega (arith, corner-count (courseIn (s .args .c)) (s .pre .0 .rises), ap oneIf (c .conjunction .ensures), s .pre .0, s .pre .1)
 
-either-requires : tie.Need-either-requires
-either-requires c κs = search needs
+disjunction-requires : tie.Need-disjunction-requires
+disjunction-requires c κs = search needs
 
 put-corner-requires-2 : tie.Need-put-corner-requires-2
 put-corner-requires-2 c κs =
     let k = c .before .before .before .before in
-    omega (arith, room-1 k, ap oneIf (c .either .ensures), first k .pre .0)
+    omega (arith, room-1 k, ap oneIf (c .disjunction .ensures), first k .pre .0)
 
 put-corner-requires-3 : tie.Need-put-corner-requires-3
 put-corner-requires-3 c κs =
@@ -83,16 +83,16 @@ returns c =
     let k₂ = third k₃ in
     let k₁ = second k₂ in
     let s = first k₁ in
-    corners-stored (courseIn (s .args .c)) _ _ (s .pre .0 .rises) (k₁ .before .both .ensures) (k₂ .before .either .ensures) (k₁ .put-corner .ensures)
+    corners-stored (courseIn (s .args .c)) _ _ (s .pre .0 .rises) (k₁ .before .conjunction .ensures) (k₂ .before .disjunction .ensures) (k₁ .put-corner .ensures)
     (k₂ .put-corner2 .ensures) (k₃ .put-corner3 .ensures) (k₄ .put-corner4 .ensures)
 
 pub put-corners-spec : {M : Type 1} → statement M
 put-corners-spec =
     tie.close
     (tie.spec
-    both-requires
+    conjunction-requires
     put-corner-requires
-    either-requires
+    disjunction-requires
     put-corner-requires-2
     put-corner-requires-3
     put-corner-requires-4

@@ -51,10 +51,6 @@ unfolding partSpotWord
 word-row s f = fields-apart part (s .x) (s .y) (omega arith) (f .x-fits) (f .y-fits) .second-is
 
 module _ (st : Station) (S : Sound st) where
-  -- the rows below s: document 01's d
-  abbrev pub below : ℕ
-  below = bottomRows (graphOf st)
-
   part-spot : (p : ℕ) → p < st .parts → spotOf (drawing st) p ≡ rankSpot (graphOf st) (rankIn (order st) p)
   unfolding rankIn
   part-spot p h =
@@ -63,11 +59,11 @@ module _ (st : Station) (S : Sound st) where
       ∙ laid.spot-of (graphOf st) (rankIn (order st) p) (omega (arith, rank-below st (S .orderable) p h, graph-parts st))
 
   -- 'Rank k stands in row d + k.'
-  pub part-row : (p : ℕ) → p < st .parts → spotOf (drawing st) p .y ≡ below + rankIn (order st) p
+  pub part-row : (p : ℕ) → p < st .parts → spotOf (drawing st) p .y ≡ bottomRows (graphOf st) + rankIn (order st) p
   unfolding rankSpot partSpot row
   part-row p h = ap (λ (s : Spot). s .y) (part-spot p h)
 
-  pub word-of-row : (p : ℕ) → p < st .parts → secondOf (getD (sheetWords (drawing st)) (1 + p) 0) ≡ below + rankIn (order st) p
+  pub word-of-row : (p : ℕ) → p < st .parts → secondOf (getD (sheetWords (drawing st)) (1 + p) 0) ≡ bottomRows (graphOf st) + rankIn (order st) p
   unfolding spotOf
   word-of-row p h =
       let g : p < length (drawing st .parts) = omega (arith, fits st S .parts-count) in
@@ -77,11 +73,11 @@ module _ (st : Station) (S : Sound st) where
   O = order-ordering st (S .orderable)
 
   -- the row of the part of rank k
-  pub rank-row : (k : ℕ) → k < length (order st) → rowOf (sheetWords (drawing st)) (getD (order st) k 0) ≡ below + k
+  pub rank-row : (k : ℕ) → k < length (order st) → rowOf (sheetWords (drawing st)) (getD (order st) k 0) ≡ bottomRows (graphOf st) + k
   unfolding rowOf
   rank-row k h =
       let g : k < st .parts = omega (arith, O .all) in
-      word-of-row (getD (order st) k 0) (O .inside k g) ∙ ap (λ (r : ℕ). below + r) (rank-of-part st (S .orderable) k g)
+      word-of-row (getD (order st) k 0) (O .inside k g) ∙ ap (λ (r : ℕ). bottomRows (graphOf st) + r) (rank-of-part st (S .orderable) k g)
 
   order-inside : (p : ℕ) → List·Memᴰ p (order st) → p < st .parts
   order-inside p m = let t = mem-place (order st) 0 m in omega (arith, O .inside (t .0) (omega (arith, t .1, O .all)), t .2)
@@ -136,9 +132,9 @@ module _ (st : Station) (S : Sound st) where
       ∙ count-ext _ _ (length (st .cables)) at-source
       ∙ sym (count-places (joins (st .source)) (st .cables) noCable)
 
-  pub below-is : below ≡ rowsBelow st
+  pub bottom-rows : bottomRows (graphOf st) ≡ rowsBelow st
   unfolding bottomRows rowsBelow
-  below-is = ap (λ (k : ℕ). oneIf (eqb k 4)) source-lines
+  bottom-rows = ap (λ (k : ℕ). oneIf (eqb k 4)) source-lines
 
 -- the parts by rising row are the parts by rank
 pub parts-by-row : (list : List ℕ) → Sound (stationOf list) → partsByRow (stationOf list .parts) (sheetWords (drawing (stationOf list))) ≡ order (stationOf list)
