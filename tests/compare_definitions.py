@@ -59,10 +59,11 @@ def main(a):
         shutil.copytree(os.path.join(ROOT, 'crates'), os.path.join(top, 'crates'), ignore=shutil.ignore_patterns('must-fail'))
         shutil.copy(os.path.join(ROOT, 'crates.txt'), top)
         hookup = os.path.join(top, 'crates/hookup')
-        shutil.rmtree(os.path.join(hookup, 'proofs'))
-        shutil.rmtree(os.path.join(hookup, 'src'))
-        os.makedirs(os.path.join(hookup, 'proofs'))
-        os.makedirs(os.path.join(hookup, 'src'))
+        with open(os.path.join(hookup, 'proofs/Computing.antt'), encoding='utf-8') as f:
+            computing = f.read()
+        for part in ('proofs', 'src'):
+            shutil.rmtree(os.path.join(hookup, part))
+            os.makedirs(os.path.join(hookup, part))
         keep = ['hookup', 'lists', 'words', 'station', 'drawing', 'order', 'layout', 'writer']
         # what only the code's contracts cite goes with the code
         os.remove(os.path.join(hookup, 'specs/Answer.antt'))
@@ -77,7 +78,7 @@ def main(a):
         for name in os.listdir(os.path.join(top, 'crates')):
             if name not in keep:
                 shutil.rmtree(os.path.join(top, 'crates', name))
-        for path, content in (('proofs/Lib.antt', 'mod Compare\n'), ('proofs/Compare.antt', '\n'.join(text) + '\n'), ('src/lib.rt', '// Nothing.\n')):
+        for path, content in (('proofs/Lib.antt', 'mod Computing\nmod Compare\n'), ('proofs/Computing.antt', computing), ('proofs/Compare.antt', '\n'.join(text) + '\n'), ('src/lib.rt', '// Nothing.\n')):
             with open(os.path.join(hookup, path), 'w', encoding='utf-8') as f:
                 f.write(content)
         r = subprocess.run(['rt', 'check', 'hookup'], cwd=top, stdout=subprocess.PIPE, stderr=subprocess.STDOUT, text=True)

@@ -54,14 +54,6 @@ module _ (names : List ℕ) where
   module _ (d : Drawing) where
     -- What is kept under any names
 
-    pub width-renumbered : renumbered names d .width ≡ d .width
-    unfolding renumbered
-    width-renumbered = refl
-
-    pub height-renumbered : renumbered names d .height ≡ d .height
-    unfolding renumbered
-    height-renumbered = refl
-
     pub parts-renumbered : length (renumbered names d .parts) ≡ length (d .parts)
     unfolding renumbered
     parts-renumbered = length-tabulate (length (d .parts)) (λ p. spotOf d (indexOf p names))

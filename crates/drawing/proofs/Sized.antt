@@ -1,20 +1,19 @@
 -- The sizes of a drawing, and that its numbers fit their fields, hold under other numbers of the parts. Assumes nothing.
-use Prim.Native.Nat.{ℕ, _+_, _<_, _≤_}
+use Prim.Native.Nat.{ℕ, _<_, _≤_}
 use native.Mathlib.Omega.{arith}
 use mathlib.Core.Path.{_≡_, sym, ap, subst, _∙_}
 use mathlib.Core.List.{List, map}
 use lib.ListN.{length, getD, length-map}
-use lib.Dec.{ltb}
 use Rattle.lists.specs.Select.{count, indexOf}
 use Rattle.lists.proofs.Select.{getD-map}
-use Rattle.drawing.specs.Spots.{Spot, origin}
+use Rattle.drawing.specs.Spots.{Spot}
 use Rattle.drawing.specs.Lines.{point}
-use Rattle.drawing.specs.Drawing.{Route, noRoute, Drawing, spotOf, routeAt, pointsAt, Meets, renumbered}
+use Rattle.drawing.specs.Drawing.{Drawing, spotOf, routeAt, pointsAt, Meets, renumbered}
 use Rattle.drawing.specs.Sheet.{sheetWords}
 use Rattle.drawing.specs.Reading.{Ends, noEnds}
 use Rattle.drawing.specs.Counts.{isCorner}
 use Rattle.drawing.specs.Sizes.{Sizes}
-use Rattle.drawing.proofs.ReadBack.{SpotFits, AllFit, RouteFits, DrawingFits}
+use Rattle.drawing.proofs.ReadBack.{SpotFits, AllFit, DrawingFits}
 use Rattle.drawing.proofs.WordCounts.{words-corners}
 use Rattle.drawing.proofs.Renumbered.{Names, parts-renumbered, routes-renumbered, spot-renumbered, first-renumbered, last-renumbered, corners-renumbered, points-renumbered, bends-renumbered, corner-count-renumbered}
 

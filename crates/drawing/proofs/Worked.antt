@@ -2,13 +2,11 @@
 use Prim.Native.Nat.{ℕ}
 use mathlib.Core.Path.{_≡_, refl}
 use mathlib.Core.List.{List, [], _∷_}
-use Rattle.lists.specs.Select.{upFrom, range, any, count}
-use Rattle.drawing.specs.Spots.{Spot, sameSpot, spotAt}
-use Rattle.drawing.specs.Lines.{point}
-use Rattle.drawing.specs.Crossing.{between, meetingSpot, runsCross, crossesOver, linesCross}
-use Rattle.drawing.specs.Drawing.{Route, Drawing, spotOf, routePoints, shareEnd, crossPair, crossingsOf, crossings}
-use Rattle.drawing.specs.Sheet.{partSpotWord, cornerSpotWord, routeWords, routesWords, headSection, partsSection, cablesSection, sheetWords}
-use Rattle.drawing.specs.Reading.{Ends, wordSpot, routesIn, drawingIn}
+use Rattle.drawing.specs.Spots.{Spot, spotAt}
+use Rattle.drawing.specs.Drawing.{Route, Drawing, crossings}
+use Rattle.drawing.specs.Sheet.{sheetWords}
+use Rattle.drawing.specs.Reading.{Ends, drawingIn}
+use Rattle.drawing.proofs.Computing.{drawing-computing}
 
 abbrev route : ℕ → ℕ → List Spot → Route
 route a b corners = record { first = a; last = b; corners = corners }
@@ -40,5 +38,5 @@ record Worked : Type 0 where
   joined : crossings (over (route 2 0 (spotAt 1 2 ∷ spotAt 0 2 ∷ []))) ≡ 0
 
 worked : Worked
-unfolding upFrom range any count sameSpot point between meetingSpot runsCross crossesOver linesCross spotOf routePoints shareEnd crossPair crossingsOf crossings partSpotWord cornerSpotWord routeWords routesWords headSection partsSection cablesSection sheetWords wordSpot routesIn drawingIn
+unfolding drawing-computing
 worked = record { triangle-words = refl; triangle-read = refl; crossed = refl; joined = refl }

@@ -1,5 +1,5 @@
 -- Document 01, the paragraph 'A spot is a whole x with a whole y': runs, lines, crossing, touching, over the points of each cable. Assumes nothing.
-use Prim.Native.Nat.{ℕ, suc, _+_, _<_, _≤_, min, max}
+use Prim.Native.Nat.{ℕ, suc, _<_, _≤_, min, max}
 use mathlib.Core.Path.{_≡_}
 use mathlib.Core.Logic.{_⊎_}
 use mathlib.Core.List.{List}

@@ -1,7 +1,7 @@
 -- The drawing that a sheet's words show, given the count of its parts and the two parts of each cable. Assumes nothing.
 use Prim.Native.Nat.{ℕ, _+_}
 use mathlib.Core.List.{List, [], _∷_, map}
-use lib.ListN.{length, getD, take, drop}
+use lib.ListN.{getD, take, drop}
 use Rattle.lists.specs.Select.{range, sortBy}
 use Rattle.words.specs.Words.{firstOf, secondOf}
 use Rattle.drawing.specs.Spots.{Spot}

@@ -11,24 +11,25 @@ use Rattle.station.specs.Station.{Station, stationOf, noCable}
 use Rattle.station.specs.Checks.{Clear}
 use Rattle.order.specs.Order.{order}
 use Rattle.order.specs.Checks.{allChecks}
-use Rattle.order.specs.Ends.{lowerPart, upperPart, graphOf}
+use Rattle.order.specs.Ends.{lowerPart, upperPart}
 use Rattle.order.specs.StOrder.{Smallest}
+use Rattle.order.proofs.Bipolar.{Orderable}
 use Rattle.order.proofs.StOrder.{order-ordering, order-smallest}
 use Rattle.order.proofs.Ends.{parts-joined}
-use Rattle.order.proofs.Passed.{list-wired, list-orderable, list-ranked, lines-most}
+use Rattle.order.proofs.Passed.{list-orderable, lines-most}
 use Rattle.drawing.specs.Drawing.{Drawing, routeAt, Meets}
 use Rattle.drawing.specs.Sheet.{sheetWords}
 use Rattle.drawing.specs.Reading.{Ends, noEnds, partsByRow}
 use Rattle.drawing.specs.Sizes.{Sizes}
-use Rattle.drawing.proofs.ReadBack.{DrawingFits, words-fit}
+use Rattle.drawing.proofs.ReadBack.{words-fit}
 use Rattle.hookup.specs.Drawing.{drawing}
 use Rattle.hookup.specs.Reading.{endsBy, drawingOf}
 use Rattle.hookup.specs.Demand.{Form, Demand3, rowOf, Ordered}
 use Rattle.hookup.proofs.Drawn as drawn
-use Rattle.hookup.proofs.Drawn.{Sound, endsOf, fits, reads, meets, sizes}
+use Rattle.hookup.proofs.Drawn.{endsOf, fits, reads, meets, sizes}
 use Rattle.hookup.proofs.PartRows.{parts-by-row, rank-row, bottom-rows}
 
-module _ (st : Station) (S : Sound st) where
+module _ (st : Station) (H : Orderable st) where
   ends-at : (i : ℕ) → i < length (st .cables) → getD (endsOf st) i noEnds ≡ endsBy (order st) (getD (st .cables) i noCable)
   ends-at i h = getD-map (endsBy (order st)) (st .cables) i noCable noEnds h
 
@@ -37,17 +38,17 @@ module _ (st : Station) (S : Sound st) where
 
   first-at : (i : ℕ) → i < length (st .cables) → routeAt (drawing st) i .first ≡ lowerPart (order st) (getD (st .cables) i noCable)
   unfolding routeAt endsBy
-  first-at i h = fits st S .routes-fit i (in-ends i h) .first-is ∙ ap (λ (e : Ends). e .first) (ends-at i h)
+  first-at i h = fits st H .routes-fit i (in-ends i h) .first-is ∙ ap (λ (e : Ends). e .first) (ends-at i h)
 
   last-at : (i : ℕ) → i < length (st .cables) → routeAt (drawing st) i .last ≡ upperPart (order st) (getD (st .cables) i noCable)
   unfolding routeAt endsBy
-  last-at i h = fits st S .routes-fit i (in-ends i h) .last-is ∙ ap (λ (e : Ends). e .last) (ends-at i h)
+  last-at i h = fits st H .routes-fit i (in-ends i h) .last-is ∙ ap (λ (e : Ends). e .last) (ends-at i h)
 
   form : Form st (drawing st) (sheetWords (drawing st))
   form = record {
     words = refl;
-    parts = fits st S .parts-count;
-    cables = fits st S .routes-count ∙ length-map (st .cables) (endsBy (order st));
+    parts = fits st H .parts-count;
+    cables = fits st H .routes-count ∙ length-map (st .cables) (endsBy (order st));
     joins = λ i h.
         ⊎-elim
         (λ e. inl (first-at i h ∙ e .0, last-at i h ∙ e .1))
@@ -56,18 +57,13 @@ module _ (st : Station) (S : Sound st) where
   }
 
 module _ (list : List ℕ) (pass : Clear allChecks list) where
-  pub sound : Sound (stationOf list)
-  sound = record {
-    orderable = list-orderable list pass;
-    ranked = list-ranked list pass;
-    three = list-wired list pass .least;
-    most = list-wired list pass .most;
-  }
+  orderable : Orderable (stationOf list)
+  orderable = list-orderable list pass
 
   -- what is read off the sheet is the drawing
   read-off : drawingOf list (sheetWords (drawing (stationOf list))) ≡ drawing (stationOf list)
   unfolding drawingOf
-  read-off = reads (stationOf list) sound
+  read-off = reads (stationOf list) orderable
 
   -- demand 3
   pub demand3 : Demand3 list (sheetWords (drawing (stationOf list)))
@@ -75,9 +71,9 @@ module _ (list : List ℕ) (pass : Clear allChecks list) where
       let st : Station = stationOf list in
       let sheet : List ℕ = sheetWords (drawing st) in
       record {
-        form = subst (λ (d : Drawing). Form st d sheet) (sym read-off) (form st sound);
-        meetings = subst (λ (d : Drawing). Meets d) (sym read-off) (meets st sound);
-        sizes = subst (λ (d : Drawing). Sizes (st .parts) (length (st .cables)) d sheet) (sym read-off) (sizes st sound);
+        form = subst (λ (d : Drawing). Form st d sheet) (sym read-off) (form st orderable);
+        meetings = subst (λ (d : Drawing). Meets d) (sym read-off) (meets st orderable);
+        sizes = subst (λ (d : Drawing). Sizes (st .parts) (length (st .cables)) d sheet) (sym read-off) (sizes st orderable);
       }
 
   -- of demand 2: 'The parts stand in the smallest st-ordering between the two named ends'
@@ -85,20 +81,20 @@ module _ (list : List ℕ) (pass : Clear allChecks list) where
   ordered =
       let st : Station = stationOf list in
       let sheet : List ℕ = sheetWords (drawing st) in
-      let e : partsByRow (st .parts) sheet ≡ order st = parts-by-row list sound in
+      let e : partsByRow (st .parts) sheet ≡ order st = parts-by-row list orderable in
       record {
-        smallest = subst (λ (l : List ℕ). Smallest st l) (sym e) (order-smallest st (list-orderable list pass));
+        smallest = subst (λ (l : List ℕ). Smallest st l) (sym e) (order-smallest st orderable);
         rows = λ k h.
             ap (λ (l : List ℕ). rowOf sheet (getD l k 0)) e
-            ∙ rank-row st sound k (omega (arith, order-ordering st (list-orderable list pass) .all)) ∙ ap (λ (d : ℕ). d + k) (bottom-rows st sound);
+            ∙ rank-row st orderable k (omega (arith, order-ordering st orderable .all)) ∙ ap (λ (d : ℕ). d + k) (bottom-rows st orderable);
       }
 
   -- every word has 32 bits
   pub sheet-fits : (w : ℕ) → List·Memᴰ w (sheetWords (drawing (stationOf list))) → w < 2 ^ 32
   sheet-fits =
-      words-fit (stationOf list .parts) (endsOf (stationOf list)) (drawing (stationOf list)) (fits (stationOf list) sound)
+      words-fit (stationOf list .parts) (endsOf (stationOf list)) (drawing (stationOf list)) (fits (stationOf list) orderable)
       (omega (arith, length-map (stationOf list .cables) (endsBy (order (stationOf list))), lines-most list pass))
 
   -- an output of so many words always suffices
   pub words-most : length (sheetWords (drawing (stationOf list))) ≤ mostWords
-  words-most = drawn.words-most (stationOf list) sound
+  words-most = drawn.words-most (stationOf list) orderable

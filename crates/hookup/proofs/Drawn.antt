@@ -6,24 +6,24 @@ use mathlib.Core.Path.{_≡_, refl, sym, ap, subst, _∙_}
 use mathlib.Core.List.{List, map}
 use lib.ListN.{length, getD, length-map}
 use lib.Seq.{ext-getD}
-use Rattle.words.specs.Limits.{leastParts, mostParts, mostWords}
+use Rattle.words.specs.Limits.{mostParts, mostWords}
 use Rattle.lists.specs.Select.{tabulate, count}
 use Rattle.lists.proofs.Select.{getD-map, getD-tabulate, length-tabulate}
-use Rattle.station.specs.Station.{Cable, Station, noCable}
+use Rattle.station.specs.Station.{Station, noCable}
 use Rattle.order.specs.Order.{order, rankIn}
 use Rattle.order.specs.StOrder.{StOrdering}
-use Rattle.order.specs.Graph.{StGraph, size, lower, upper, Ranked}
-use Rattle.order.specs.Ends.{lowerPart, upperPart, graphOf}
+use Rattle.order.specs.Graph.{StGraph, size, Ranked}
+use Rattle.order.specs.Ends.{graphOf}
 use Rattle.order.proofs.Bipolar.{Orderable}
 use Rattle.order.proofs.StOrder.{order-ordering}
-use Rattle.order.proofs.Ranks.{graph-parts, graph-size, rank-below, part-of-rank, rank-of-part}
+use Rattle.order.proofs.Ranks.{order-ranked, graph-parts, graph-size, rank-below, part-of-rank, rank-of-part}
 use Rattle.order.proofs.Graphs.{cables-le}
-use Rattle.order.proofs.Ends.{parts-joined, lower-part, upper-part}
-use Rattle.drawing.specs.Drawing.{Drawing, routeAt, Meets, crossings, renumbered}
+use Rattle.order.proofs.Ends.{lower-part, upper-part}
+use Rattle.drawing.specs.Drawing.{Drawing, Meets, crossings, renumbered}
 use Rattle.drawing.specs.Sheet.{sheetWords}
-use Rattle.drawing.specs.Reading.{Ends, noEnds, drawingIn}
+use Rattle.drawing.specs.Reading.{Ends, noEnds}
 use Rattle.drawing.specs.Sizes.{Sizes}
-use Rattle.drawing.proofs.ReadBack.{RouteFits, DrawingFits, read-back}
+use Rattle.drawing.proofs.ReadBack.{DrawingFits, read-back}
 use Rattle.drawing.proofs.Renumbered.{Names, meets-renumbered, crossings-renumbered, length-renumbered}
 use Rattle.drawing.specs.Counts.{isCorner}
 use Rattle.drawing.proofs.Sized.{named, fits-renumbered, corner-words-renumbered, sizes-renumbered}
@@ -34,13 +34,6 @@ use Rattle.layout.proofs.Drawn as laid
 use Rattle.hookup.specs.Drawing.{drawingBy, drawing}
 use Rattle.hookup.specs.Reading.{endsBy, readBy}
 
--- What is known of a station that was not sent back: its size, that it has an order, and that the layout may start from the ranks.
-pub record Sound (st : Station) : Type 0 where
-  pub orderable : Orderable st
-  pub ranked : Ranked (graphOf st)
-  pub three : leastParts ≤ st .parts
-  pub most : st .parts ≤ mostParts
-
 -- the cables' two parts, by line, as a sheet of the station is read
 abbrev pub endsOf : Station → List Ends
 endsOf st = map (endsBy (order st)) (st .cables)
@@ -50,31 +43,34 @@ module _ (st : Station) where
   unfolding drawing drawingBy graphOf
   is-renumbered = refl
 
-  module _ (S : Sound st) where
+  module _ (H : Orderable st) where
+    R : Ranked (graphOf st)
+    R = order-ranked st H
+
     two : 2 ≤ graphOf st .parts
-    two = omega (arith, graph-parts st, S .three)
+    two = omega (arith, graph-parts st, H .wired .least)
 
     most : graphOf st .parts ≤ mostParts
-    most = omega (arith, graph-parts st, S .most)
+    most = omega (arith, graph-parts st, H .wired .most)
 
     O : StOrdering st (order st)
-    O = order-ordering st (S .orderable)
+    O = order-ordering st H
 
     -- the order names each rank
     pub names : Names (length (layout (graphOf st) .parts)) (order st)
     unfolding rankIn
     names = subst (λ (n : ℕ). Names n (order st)) (sym (laid.parts-count (graphOf st) ∙ graph-parts st)) (record {
-      inside = rank-below st (S .orderable);
-      back = part-of-rank st (S .orderable);
+      inside = rank-below st H;
+      back = part-of-rank st H;
       named = O .inside;
-      place = rank-of-part st (S .orderable);
+      place = rank-of-part st H;
     })
 
     pub meets : Meets (drawing st)
-    meets = subst Meets (sym is-renumbered) (meets-renumbered (order st) (layout (graphOf st)) names (laid.meets (graphOf st) (S .ranked)))
+    meets = subst Meets (sym is-renumbered) (meets-renumbered (order st) (layout (graphOf st)) names (laid.meets (graphOf st) R))
 
     pub crossings-are : crossings (layout (graphOf st)) ≡ crossings (drawing st)
-    crossings-are = sym (ap crossings is-renumbered ∙ crossings-renumbered (order st) (layout (graphOf st)) names (laid.meets (graphOf st) (S .ranked)))
+    crossings-are = sym (ap crossings is-renumbered ∙ crossings-renumbered (order st) (layout (graphOf st)) names (laid.meets (graphOf st) R))
 
     pub length-is : length (sheetWords (layout (graphOf st))) ≡ length (sheetWords (drawing st))
     length-is = sym (ap (λ (d : Drawing). length (sheetWords d)) is-renumbered ∙ length-renumbered (order st) (layout (graphOf st)))
@@ -90,7 +86,7 @@ module _ (st : Station) where
         let e : getD (endsOf st) i noEnds ≡ endsBy (order st) (getD (st .cables) i noCable) = getD-map (endsBy (order st)) (st .cables) i noCable noEnds h in
         let f : getD (map (named (order st)) l) i noEnds ≡ named (order st) (getD l i noEnds) = getD-map (named (order st)) l i noEnds noEnds (omega (arith, length-tabulate (size (graphOf st)) (laid.endsOf (graphOf st)))) in
         let q : getD l i noEnds ≡ laid.endsOf (graphOf st) i = getD-tabulate (size (graphOf st)) (laid.endsOf (graphOf st)) i noEnds g in
-        e ∙ ends-path (sym (lower-part st (S .orderable) i h)) (sym (upper-part st (S .orderable) i h)) ∙ sym (f ∙ ap (named (order st)) q)
+        e ∙ ends-path (sym (lower-part st H i h)) (sym (upper-part st H i h)) ∙ sym (f ∙ ap (named (order st)) q)
       where
         ends-path : {a b c d : ℕ} → a ≡ c → b ≡ d → _≡_ {A = Ends} (record { first = a; last = b }) (record { first = c; last = d })
         ends-path e f = λ i. record { first = e i; last = f i }
@@ -108,7 +104,7 @@ module _ (st : Station) where
         subst (λ (d : Drawing). DrawingFits (st .parts) (endsOf st) d) (sym is-renumbered)
         (subst (λ (l : List Ends). DrawingFits (st .parts) l (renumbered (order st) (layout (graphOf st)))) (sym ends-are)
         (subst (λ (n : ℕ). DrawingFits n (map (named (order st)) (tabulate (size (graphOf st)) (laid.endsOf (graphOf st)))) (renumbered (order st) (layout (graphOf st)))) (graph-parts st)
-        (fits-renumbered (order st) (layout (graphOf st)) names (graphOf st .parts) _ (laid.fits (graphOf st) (S .ranked) two most))))
+        (fits-renumbered (order st) (layout (graphOf st)) names (graphOf st .parts) _ (laid.fits (graphOf st) R two most))))
 
     -- what is read off the sheet is the drawing
     pub reads : readBy (order st) st (sheetWords (drawing st)) ≡ drawing st
@@ -121,10 +117,10 @@ module _ (st : Station) where
 
     ranks-all : length ranks ≡ size (graphOf st)
     unfolding ranks
-    ranks-all = laid.ends-length (graphOf st) (S .ranked) two most
+    ranks-all = laid.ends-length (graphOf st) R two most
 
     few : length ranks ≤ 65536
-    few = omega (arith, ranks-all, laid.few-lines (graphOf st) (S .ranked) two most)
+    few = omega (arith, ranks-all, laid.few-lines (graphOf st) R two most)
 
     -- 'The sheet has .. 2m - 2n + 2 + d + e corners and 3m - n + 3 + d + e words.'
     pub corner-words :
@@ -135,20 +131,19 @@ module _ (st : Station) where
         omega (
           arith,
           ap (λ (d : Drawing). count isCorner (sheetWords d)) is-renumbered
-              ∙ corner-words-renumbered (order st) (layout G) names (laid.meets G (S .ranked)) (G .parts) ranks (laid.fits G (S .ranked) two most) few,
-          laid.corner-words G (S .ranked) two most,
+              ∙ corner-words-renumbered (order st) (layout G) names (laid.meets G R) (G .parts) ranks (laid.fits G R two most) few,
+          laid.corner-words G R two most,
           graph-parts st,
           graph-size st,
         )
 
     pub all-words : length (sheetWords (drawing st)) + st .parts ≡ 3 * length (st .cables) + 3 + bottomRows (graphOf st) + topRows (graphOf st)
-    all-words = omega (arith, length-is, laid.words-count (graphOf st) (S .ranked) two, graph-parts st, graph-size st)
+    all-words = omega (arith, length-is, laid.words-count (graphOf st) R two, graph-parts st, graph-size st)
 
     pub sizes : Sizes (st .parts) (length (st .cables)) (drawing st) (sheetWords (drawing st))
     unfolding ranks
     sizes =
         let G : StGraph = graphOf st in
-        let R : Ranked G = S .ranked in
         subst (λ (d : Drawing). Sizes (st .parts) (length (st .cables)) d (sheetWords d)) (sym is-renumbered)
         (subst (λ (m : ℕ). Sizes (st .parts) m (renumbered (order st) (layout G)) (sheetWords (renumbered (order st) (layout G)))) (ranks-all ∙ graph-size st)
         (subst (λ (n : ℕ). Sizes n (length ranks) (renumbered (order st) (layout G)) (sheetWords (renumbered (order st) (layout G)))) (graph-parts st)
@@ -158,4 +153,4 @@ module _ (st : Station) where
     -- four cables at a part at most
     pub words-most : length (sheetWords (drawing st)) ≤ mostWords
     words-most =
-        omega (arith, all-words, cables-le (graphOf st) (S .ranked), bottomRows-le (graphOf st) (S .ranked), topRows-le (graphOf st) (S .ranked), graph-parts st, graph-size st, S .most)
+        omega (arith, all-words, cables-le (graphOf st) R, bottomRows-le (graphOf st) R, topRows-le (graphOf st) R, graph-parts st, graph-size st, H .wired .most)

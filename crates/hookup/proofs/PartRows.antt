@@ -21,12 +21,14 @@ use Rattle.words.proofs.Words.{fields-apart}
 use Rattle.station.specs.Station.{Cable, Station, stationOf, joins, degree, noCable}
 use Rattle.order.specs.Order.{order, rankIn}
 use Rattle.order.specs.StOrder.{StOrdering}
+use Rattle.order.proofs.Joins.{within}
+use Rattle.order.proofs.Bipolar.{Orderable}
 use Rattle.order.proofs.StOrder.{order-ordering, order-mem}
 use Rattle.order.proofs.Ranks.{graph-parts, graph-size, lower-is, rank-below, rank-of-part, rank-one, rank-source}
 use Rattle.order.specs.Graph.{size, lower, linesAt}
 use Rattle.order.specs.Ends.{graphOf}
 use Rattle.drawing.specs.Spots.{Spot, origin}
-use Rattle.drawing.specs.Drawing.{Drawing, spotOf, renumbered}
+use Rattle.drawing.specs.Drawing.{Drawing, spotOf}
 use Rattle.drawing.specs.Sheet.{partSpotWord, headSection, partsSection, cablesSection, sheetWords}
 use Rattle.drawing.specs.Reading.{partsByRow}
 use Rattle.drawing.proofs.ReadBack.{SpotFits}
@@ -36,7 +38,7 @@ use Rattle.layout.specs.Layout.{layout}
 use Rattle.layout.proofs.Drawn as laid
 use Rattle.hookup.specs.Drawing.{drawing}
 use Rattle.hookup.specs.Demand.{rowsBelow, rowOf}
-use Rattle.hookup.proofs.Drawn.{Sound, is-renumbered, fits}
+use Rattle.hookup.proofs.Drawn.{is-renumbered, fits}
 
 -- the word of part p is word 1 + p
 part-word : (d : Drawing) (p : ℕ) → p < length (d .parts) → getD (sheetWords d) (1 + p) 0 ≡ partSpotWord (spotOf d p)
@@ -50,13 +52,13 @@ word-row : (s : Spot) → SpotFits s → secondOf (partSpotWord s) ≡ s .y
 unfolding partSpotWord
 word-row s f = fields-apart part (s .x) (s .y) (omega arith) (f .x-fits) (f .y-fits) .second-is
 
-module _ (st : Station) (S : Sound st) where
+module _ (st : Station) (H : Orderable st) where
   part-spot : (p : ℕ) → p < st .parts → spotOf (drawing st) p ≡ rankSpot (graphOf st) (rankIn (order st) p)
   unfolding rankIn
   part-spot p h =
       let g : p < length (layout (graphOf st) .parts) = omega (arith, laid.parts-count (graphOf st), graph-parts st) in
       ap (λ (d : Drawing). spotOf d p) (is-renumbered st) ∙ spot-renumbered (order st) (layout (graphOf st)) p g
-      ∙ laid.spot-of (graphOf st) (rankIn (order st) p) (omega (arith, rank-below st (S .orderable) p h, graph-parts st))
+      ∙ laid.spot-of (graphOf st) (rankIn (order st) p) (omega (arith, rank-below st H p h, graph-parts st))
 
   -- 'Rank k stands in row d + k.'
   pub part-row : (p : ℕ) → p < st .parts → spotOf (drawing st) p .y ≡ bottomRows (graphOf st) + rankIn (order st) p
@@ -66,18 +68,18 @@ module _ (st : Station) (S : Sound st) where
   pub word-of-row : (p : ℕ) → p < st .parts → secondOf (getD (sheetWords (drawing st)) (1 + p) 0) ≡ bottomRows (graphOf st) + rankIn (order st) p
   unfolding spotOf
   word-of-row p h =
-      let g : p < length (drawing st .parts) = omega (arith, fits st S .parts-count) in
-      ap (λ (w : ℕ). secondOf w) (part-word (drawing st) p g) ∙ word-row (spotOf (drawing st) p) (fits st S .parts-fit p g) ∙ part-row p h
+      let g : p < length (drawing st .parts) = omega (arith, fits st H .parts-count) in
+      ap (λ (w : ℕ). secondOf w) (part-word (drawing st) p g) ∙ word-row (spotOf (drawing st) p) (fits st H .parts-fit p g) ∙ part-row p h
 
   O : StOrdering st (order st)
-  O = order-ordering st (S .orderable)
+  O = order-ordering st H
 
   -- the row of the part of rank k
   pub rank-row : (k : ℕ) → k < length (order st) → rowOf (sheetWords (drawing st)) (getD (order st) k 0) ≡ bottomRows (graphOf st) + k
   unfolding rowOf
   rank-row k h =
       let g : k < st .parts = omega (arith, O .all) in
-      word-of-row (getD (order st) k 0) (O .inside k g) ∙ ap (λ (r : ℕ). bottomRows (graphOf st) + r) (rank-of-part st (S .orderable) k g)
+      word-of-row (getD (order st) k 0) (O .inside k g) ∙ ap (λ (r : ℕ). bottomRows (graphOf st) + r) (rank-of-part st H k g)
 
   order-inside : (p : ℕ) → List·Memᴰ p (order st) → p < st .parts
   order-inside p m = let t = mem-place (order st) 0 m in omega (arith, O .inside (t .0) (omega (arith, t .1, O .all)), t .2)
@@ -85,7 +87,7 @@ module _ (st : Station) (S : Sound st) where
   pub by-row : sortBy (rowOf (sheetWords (drawing st))) (range (st .parts)) ≡ order st
   by-row =
       sortBy-strictly (rowOf (sheetWords (drawing st))) (st .parts) (order st) (strictly-of-places (rowOf (sheetWords (drawing st))) (order st) (λ i j h g. omega (arith, rank-row i (omega arith), rank-row j g)))
-      order-inside (order-mem st (S .orderable))
+      order-inside (order-mem st H)
 
   -- The rows below s, by the cables of s
 
@@ -96,12 +98,12 @@ module _ (st : Station) (S : Sound st) where
       c : Cable
       c = getD (st .cables) i noCable
 
-      within : (c .one < st .parts) × (c .other < st .parts)
-      within = S .orderable .within i h
+      inside : (c .one < st .parts) × (c .other < st .parts)
+      inside = within (H .wired) i h
 
       -- s alone has rank 0
       is : (p : ℕ) → p < st .parts → rankIn (order st) p ≡ 0 → p ≡ st .source
-      is p l e = rank-one st (S .orderable) p (st .source) l (S .orderable .source) (e ∙ sym (rank-source st (S .orderable)))
+      is p l e = rank-one st H p (st .source) l (H .wired .source) (e ∙ sym (rank-source st H))
 
       there : eqb (lower (graphOf st) i) 0 ≡ true → (eqb (c .one) (st .source) || eqb (c .other) (st .source)) ≡ true
       there e = go (ℕ-discrete (rankIn (order st) (c .one)) 0)
@@ -110,14 +112,14 @@ module _ (st : Station) (S : Sound st) where
           least = sym (lower-is st i h) ∙ eqb-true (lower (graphOf st) i) 0 e
 
           go : Dec (rankIn (order st) (c .one) ≡ 0) → (eqb (c .one) (st .source) || eqb (c .other) (st .source)) ≡ true
-          go (yes q) = or-left _ _ (eq-eqb (c .one) (st .source) (is (c .one) (within .0) q))
-          go (no q) = or-right (eqb (c .one) (st .source)) _ (eq-eqb (c .other) (st .source) (is (c .other) (within .1) (omega (arith, least))))
+          go (yes q) = or-left _ _ (eq-eqb (c .one) (st .source) (is (c .one) (inside .0) q))
+          go (no q) = or-right (eqb (c .one) (st .source)) _ (eq-eqb (c .other) (st .source) (is (c .other) (inside .1) (omega (arith, least))))
 
       back : (eqb (c .one) (st .source) || eqb (c .other) (st .source)) ≡ true → eqb (lower (graphOf st) i) 0 ≡ true
       back e = go (or-e (eqb (c .one) (st .source)) (eqb (c .other) (st .source)) e)
         where
           zero-at : (p : ℕ) → p ≡ st .source → rankIn (order st) p ≡ 0
-          zero-at p q = ap (rankIn (order st)) q ∙ rank-source st (S .orderable)
+          zero-at p q = ap (rankIn (order st)) q ∙ rank-source st H
 
           go : (eqb (c .one) (st .source) ≡ true) ⊎ (eqb (c .other) (st .source) ≡ true) → eqb (lower (graphOf st) i) 0 ≡ true
           go (inl q) = eq-eqb (lower (graphOf st) i) 0 (omega (arith, lower-is st i h, zero-at (c .one) (eqb-true (c .one) (st .source) q)))
@@ -137,6 +139,6 @@ module _ (st : Station) (S : Sound st) where
   bottom-rows = ap (λ (k : ℕ). oneIf (eqb k 4)) source-lines
 
 -- the parts by rising row are the parts by rank
-pub parts-by-row : (list : List ℕ) → Sound (stationOf list) → partsByRow (stationOf list .parts) (sheetWords (drawing (stationOf list))) ≡ order (stationOf list)
+pub parts-by-row : (list : List ℕ) → Orderable (stationOf list) → partsByRow (stationOf list .parts) (sheetWords (drawing (stationOf list))) ≡ order (stationOf list)
 unfolding partsByRow rowOf
-parts-by-row list S = by-row (stationOf list) S
+parts-by-row list H = by-row (stationOf list) H

@@ -3,7 +3,7 @@ use Prim.Native.Nat.{ℕ, _<_, _≤_}
 use native.Mathlib.Omega.{arith}
 use mathlib.Core.Path.{_≡_, sym, ap, ap₂, subst, _∙_}
 use mathlib.Core.List.{List}
-use lib.ListN.{length, getD}
+use lib.ListN.{length}
 use Rattle.words.specs.Limits.{mostCables}
 use Rattle.station.specs.Station.{stationOf}
 use Rattle.station.specs.Checks.{Clear}
@@ -15,25 +15,25 @@ use Rattle.order.specs.Ranking.{RankingOf, namesIn, Inverse}
 use Rattle.order.specs.Arrays.{graphIn}
 use Rattle.order.specs.declared.Ranking.{Ranking}
 use Rattle.order.specs.declared.Graph.{Graph}
+use Rattle.order.proofs.Passed.{list-wired, list-orderable, list-ranked}
 use Rattle.order.proofs.Ranks.{graph-parts, rank-below}
 use Rattle.drawing.specs.Drawing.{Drawing, crossings, renumbered}
 use Rattle.drawing.specs.Sheet.{sheetWords}
 use Rattle.layout.specs.Layout.{layout}
-use Rattle.layout.specs.Arrays.{Given}
+use Rattle.layout.specs.Arrays.{GraphFits}
 use Rattle.hookup.specs.Drawing.{drawing}
-use Rattle.hookup.proofs.Drawn.{Sound, is-renumbered, crossings-are, length-is}
-use Rattle.hookup.proofs.Demand3.{sound}
+use Rattle.hookup.proofs.Drawn.{is-renumbered, crossings-are, length-is}
 
 module _ (list : List ℕ) (pass : Clear allChecks list) where
   -- the layout may start from the cables in ranks
-  pub given : {g : Graph} → graphIn g ≡ graphOf (stationOf list) → g .cables ≤ mostCables → Given g
-  given {g} e few =
+  pub graph-fits : {g : Graph} → graphIn g ≡ graphOf (stationOf list) → g .cables ≤ mostCables → GraphFits g
+  graph-fits {g} e few =
       let n : g .parts ≡ stationOf list .parts = ap (λ (G : StGraph). G .parts) e ∙ graph-parts (stationOf list) in
       record {
-        ranked = subst Ranked (sym e) (sound list pass .ranked);
+        ranked = subst Ranked (sym e) (list-ranked list pass);
         cables = few;
-        least = omega (arith, sound list pass .three);
-        most = omega (arith, sound list pass .most);
+        least = omega (arith, list-wired list pass .least);
+        most = omega (arith, list-wired list pass .most);
       }
 
   module _ (g : Graph) (e : graphIn g ≡ graphOf (stationOf list)) where
@@ -41,10 +41,10 @@ module _ (list : List ℕ) (pass : Clear allChecks list) where
     count = ap (λ (G : StGraph). G .parts) e ∙ graph-parts (stationOf list)
 
     pub words-are : length (sheetWords (layout (graphIn g))) ≡ length (sheetWords (drawing (stationOf list)))
-    words-are = ap (λ (G : StGraph). length (sheetWords (layout G))) e ∙ length-is (stationOf list) (sound list pass)
+    words-are = ap (λ (G : StGraph). length (sheetWords (layout G))) e ∙ length-is (stationOf list) (list-orderable list pass)
 
     pub crossings-counted : crossings (layout (graphIn g)) ≡ crossings (drawing (stationOf list))
-    crossings-counted = ap (λ (G : StGraph). crossings (layout G)) e ∙ crossings-are (stationOf list) (sound list pass)
+    crossings-counted = ap (λ (G : StGraph). crossings (layout G)) e ∙ crossings-are (stationOf list) (list-orderable list pass)
 
     module _ {r : Ranking} (K : RankingOf (stationOf list) r) where
       names-are : namesIn (g .parts) r ≡ order (stationOf list)
@@ -54,7 +54,7 @@ module _ (list : List ℕ) (pass : Clear allChecks list) where
       inverse = record {
         below = λ p h.
             let b : p < stationOf list .parts = omega (arith, count) in
-            omega (arith, K .rank p b, rank-below (stationOf list) (sound list pass .orderable) p b, count);
+            omega (arith, K .rank p b, rank-below (stationOf list) (list-orderable list pass) p b, count);
         rank = λ p h. K .rank p (omega (arith, count)) ∙ ap (λ (l : List ℕ). rankIn l p) (sym names-are);
       }
 

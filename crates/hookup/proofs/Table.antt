@@ -1,36 +1,25 @@
 -- The eleven refusals, the boundaries, and stations A to D of document 01, as the definitions give them. Assumes nothing.
-use Prim.Native.Nat.{ℕ, zero, suc, _+_, _-_}
+use Prim.Native.Nat.{ℕ, _-_}
 use mathlib.Core.Path.{_≡_, refl}
-use mathlib.Core.Bool.{Bool, false}
-use mathlib.Core.List.{List, [], _∷_, _++_, map}
-use lib.ListN.{length, getD}
+use mathlib.Core.Bool.{false}
+use mathlib.Core.List.{List, [], _∷_}
+use lib.ListN.{length}
 use lib.Dec.{eqb}
-use Rattle.lists.specs.Search.{seek}
-use Rattle.lists.specs.Select.{upFrom, range, tabulate, member, any, filter, count, without, lastly, indexOf, insertBy, sortBy}
+use Rattle.lists.specs.Select.{count}
 use Rattle.words.specs.Words.{kindOf, corner}
-use Rattle.station.specs.Station.{stationOf, cableOf, joins, degree}
-use Rattle.station.specs.Checks.{orElse, firstRefusal, atWhen, check1, kindAt, misplaced, check2, check3, check4, outside, check5, check6, sameParts, repeated, check7, check8, listChecks}
-use Rattle.order.specs.Reach.{neighbours, endsAt, walk, unreached, null, connected, check9, check10}
-use Rattle.order.specs.Checks.{stationChecks, allChecks}
-use Rattle.order.specs.Order.{candidate, firstOr, extend, order, rankIn}
-use Rattle.order.specs.Ends.{lowerRank, upperRank, lowerPart, upperPart, rankedBy}
-use Rattle.order.specs.Graph.{linesAt}
-use Rattle.layout.specs.Columns.{takenPlace, newLeft, newRight, newLast, moved, bottomLine, topLine, outgoing, incoming, taken, columnAt, step, columns}
-use Rattle.drawing.specs.Spots.{Spot, sameSpot}
-use Rattle.layout.specs.Points.{turns, dropRepeats, pointsOf, inner, cornersOf, bottomRows, topRows, row, partSpot, course}
-use Rattle.layout.specs.Layout.{drawnIn, layout}
-use Rattle.drawing.specs.Lines.{point}
-use Rattle.drawing.specs.Crossing.{between, meetingSpot, runsCross, crossesOver, linesCross}
-use Rattle.drawing.specs.Drawing.{Drawing, spotOf, routePoints, routeAt, shareEnd, crossPair, crossingsOf, crossings, renumbered}
-use Rattle.hookup.specs.Drawing.{drawingBy, drawing}
-use Rattle.drawing.specs.Sheet.{partSpotWord, cornerSpotWord, routeWords, routesWords, headSection, partsSection, cablesSection, sheetWords}
-use Rattle.hookup.specs.Outcome.{Outcome, drawn, sentBack, fitted, orDrawn, outcome}
+use Rattle.station.specs.Station.{stationOf}
+use Rattle.order.specs.Reach.{connected}
+use Rattle.order.specs.Order.{order}
+use Rattle.order.proofs.Triangle.{triangle}
+use Rattle.drawing.specs.Spots.{Spot}
+use Rattle.drawing.specs.Drawing.{Drawing, routeAt, crossings}
+use Rattle.hookup.specs.Drawing.{drawing}
+use Rattle.drawing.specs.Sheet.{sheetWords}
+use Rattle.hookup.specs.Outcome.{drawn, sentBack, outcome}
+use Rattle.hookup.proofs.Computing.{hookup-computing}
 
 abbrev at : ℕ → ℕ → Spot
 at x y = record { x = x; y = y }
-
-abbrev pub triangle : List ℕ
-triangle = 0x10030003 ∷ 0x20000002 ∷ 0x30000001 ∷ 0x30001002 ∷ 0x30000002 ∷ []
 
 abbrev pub square : List ℕ
 square = 0x10040004 ∷ 0x20000002 ∷ 0x30000001 ∷ 0x30001002 ∷ 0x30002003 ∷ 0x30003000 ∷ []
@@ -119,7 +108,7 @@ pub record Table : Type 0 where
   d-short : outcome stationD 29 ≡ sentBack 11 30
 
 pub table : Table
-unfolding seek upFrom range tabulate member any filter count without lastly indexOf insertBy sortBy stationOf cableOf joins degree orElse firstRefusal atWhen check1 kindAt misplaced check2 check3 check4 outside check5 check6 sameParts repeated check7 check8 listChecks neighbours endsAt walk unreached null connected check9 check10 stationChecks allChecks candidate firstOr extend order rankIn lowerRank upperRank lowerPart upperPart rankedBy linesAt takenPlace newLeft newRight newLast moved bottomLine topLine outgoing incoming taken columnAt step columns sameSpot turns dropRepeats pointsOf inner cornersOf bottomRows topRows row partSpot course point between meetingSpot runsCross crossesOver linesCross spotOf routePoints drawnIn layout renumbered drawingBy drawing shareEnd crossPair crossingsOf crossings partSpotWord cornerSpotWord routeWords routesWords headSection partsSection cablesSection sheetWords fitted orDrawn outcome routeAt
+unfolding hookup-computing
 table = record {
   refusal-1 = refl;
   refusal-2 = refl;

@@ -1,6 +1,6 @@
 -- Document 01 at the top: for a list and a length of output, the sheet with its counts, or the refusal with its number and place. Assumes nothing.
 use Prim.Native.Nat.{ℕ}
-use mathlib.Core.Bool.{Bool, cond}
+use mathlib.Core.Bool.{cond}
 use mathlib.Core.List.{List}
 use lib.ListN.{length}
 use lib.Dec.{ltb}

@@ -7,7 +7,6 @@ use station::Verdict;
 use writer::crossings::count_crossings;
 use writer::sheet::count_words;
 use writer::sheet::put_sheet;
-ghost use mathlib.Core.Path.{_≡_};
 ghost use Rattle.station.specs.Checks.{Clear};
 ghost use Rattle.order.specs.Checks.{allChecks};
 ghost use Rattle.hookup.specs.Answer.{Drew};

@@ -5,20 +5,12 @@ use native.Mathlib.Decide.{decLt, ℕ-discrete}
 use mathlib.Core.Path.{_≡_, ap}
 use mathlib.Core.Bool.{Bool, true, false, cond}
 use lib.ListN.{length, List·getD-eq-default}
-use lib.Dec.{eqb, ltb}
+use lib.Dec.{eqb}
 use Rattle.lists.proofs.Tests.{oneIf-le}
 use Rattle.order.specs.Graph.{StGraph, size, lower, upper, linesAt}
-use Rattle.layout.specs.Columns.{newLeft, newRight, newLast, moved, columnAt, columns}
+use Rattle.layout.specs.Columns.{newLeft, newRight, newLast, columnAt, columns}
+use Rattle.layout.proofs.NewColumns.{moved-le}
 use Rattle.layout.proofs.Step.{cable, part, width, outs, ins, outPlace, inAt, takenColumn, lefts, rights, cable-start, width-start, cable-opened, cable-kept, length-cables, length-parts, part-kept, part-opened, width-suc, outPlace-below, takenColumn-none, takenColumn-comes, length-outgoing}
-
-moved-le : (p a b x : ℕ) → moved p a b x ≤ x + a + b
-unfolding moved
-moved-le p a b x = go (ltb x p) (eqb x p)
-  where
-    go : (u v : Bool) → cond u x (cond v (x + a) (x + a + b)) ≤ x + a + b
-    go true v = omega arith
-    go false true = omega arith
-    go false false = omega arith
 
 column-le : (p last j b : ℕ) → p + j ≤ b → last ≤ b → columnAt p last j ≤ b
 unfolding columnAt

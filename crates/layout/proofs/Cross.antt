@@ -1,11 +1,11 @@
 -- On the lines of a layout, the test whether two of them cross agrees with a test on five numbers: lane, lanes and columns. Assumes nothing.
 use Prim.Native.Nat.{ℕ, _<_, min, max}
 use mathlib.Core.Path.{_≡_, sym}
-use mathlib.Core.Bool.{Bool, true, _&&_, _||_}
+use mathlib.Core.Bool.{true, _&&_, _||_}
 use lib.Dec.{ltb}
 use borrow.Author.Tests.{ltb-true, lt-ltb}
 use Rattle.lists.proofs.Bools.{and-e, and-i, same-test}
-use Rattle.order.specs.Graph.{StGraph, size, lower, upper}
+use Rattle.order.specs.Graph.{StGraph, size}
 use Rattle.layout.specs.Points.{Course, pointsOf}
 use Rattle.drawing.specs.Crossing.{crossesOver, linesCross}
 use Rattle.drawing.proofs.Crossing.{crossesOver-e, crossesOver-i}

@@ -1,43 +1,37 @@
--- The layout of an st-graph as a drawing: its parts and routes, how they meet, its sizes, its words and its crossings. Assumes nothing.
+-- The layout of an st-graph as a drawing: its parts and routes, how they meet, its sizes and its words. Assumes nothing.
 use Prim.Native.Nat.{ℕ, zero, suc, _+_, _-_, _*_, _<_, _≤_}
 use native.Mathlib.Omega.{arith}
-use mathlib.Core.Path.{_≡_, refl, sym, ap, ap₂, subst, subst₂, _∙_}
+use mathlib.Core.Path.{_≡_, refl, sym, ap, subst, subst₂, _∙_}
 use mathlib.Core.Logic.{_⊎_, ⊎-elim}
-use mathlib.Core.Bool.{Bool, not, _&&_, _||_}
-use mathlib.Core.List.{List, [], _∷_, _++_, map, List·Memᴰ, List·Memᴰ·head, List·Memᴰ·tail, Memᴰ·append-left}
+use mathlib.Core.List.{List, [], _∷_, _++_, List·Memᴰ, List·Memᴰ·head, List·Memᴰ·tail, Memᴰ·append-left}
 use lib.ListN.{length, getD}
 use lib.Dec.{eqb, ltb}
 use Rattle.words.specs.Limits.{mostParts}
-use Rattle.lists.specs.Select.{range, tabulate, count, sum, oneIf}
-use Rattle.lists.specs.Pairs.{pairs}
+use Rattle.lists.specs.Select.{range, tabulate, count, sum}
 use Rattle.lists.proofs.Select.{getD-mem, getD-tabulate, length-tabulate}
 use Rattle.lists.proofs.Places.{mem-place, first-between-last}
 use Rattle.lists.proofs.Maps.{map-tabulate, count-tabulate}
-use Rattle.lists.proofs.Pairs.{pairs-ext}
 use Rattle.lists.proofs.Same.{same-eqb}
-use Rattle.order.specs.Graph.{StGraph, size, lower, upper, linesAt, Ranked}
-use Rattle.order.proofs.Graphs.{cables-le}
+use Rattle.order.specs.Graph.{StGraph, size, lower, upper, Ranked}
+use Rattle.order.proofs.Graphs.{lower-inside, cables-le}
 use Rattle.drawing.specs.Spots.{Spot, origin}
 use Rattle.drawing.specs.Lines.{point, Meetings}
-use Rattle.drawing.specs.Crossing.{linesCross}
-use Rattle.drawing.specs.Drawing.{Route, noRoute, Drawing, spotOf, routePoints, routeAt, pointsAt, Meets, shareEnd, crossPair, crossings}
+use Rattle.drawing.specs.Drawing.{Route, noRoute, Drawing, spotOf, routePoints, routeAt, pointsAt, Meets}
 use Rattle.drawing.specs.Sheet.{sheetWords}
 use Rattle.drawing.specs.Reading.{Ends, noEnds}
 use Rattle.drawing.specs.Counts.{cornerCount, isCorner}
 use Rattle.drawing.specs.Sizes.{Sizes}
 use Rattle.drawing.proofs.Renaming.{renamed}
-use Rattle.drawing.proofs.ReadBack.{SpotFits, AllFit, RouteFits, DrawingFits}
+use Rattle.drawing.proofs.ReadBack.{SpotFits, AllFit, DrawingFits}
 use Rattle.drawing.proofs.WordCounts.{words-length, words-corners}
-use Rattle.drawing.proofs.Crossings.{crossings-pairs}
 use Rattle.layout.specs.Columns.{columns}
-use Rattle.layout.specs.Points.{Course, turns, pointsOf, inner, cornersOf, bottomRows, topRows, row, partSpot, course, rankSpot, courseOf}
+use Rattle.layout.specs.Points.{turns, pointsOf, inner, cornersOf, bottomRows, topRows, row, partSpot, course, rankSpot, courseOf}
 use Rattle.layout.specs.Layout.{drawnIn, layout}
-use Rattle.layout.specs.Over.{over}
+use Rattle.layout.specs.Courses.{CourseFits}
 use Rattle.layout.proofs.Turns.{turns-points}
 use Rattle.layout.proofs.ExtraRows.{bottomRows-le, topRows-le}
 use Rattle.layout.proofs.Placed.{facts}
 use Rattle.layout.proofs.Meet.{meetings}
-use Rattle.layout.proofs.Cross.{linesCross-over}
 use Rattle.layout.proofs.Sizes.{part-column-below, rising, corners-four, corners-many-count, spots-within, points-within, columns-count, corners-sum, width-spot, height-spot}
 
 -- on plain numbers: the count of columns is one more than the width, the count of rows one more than the height
@@ -46,15 +40,6 @@ width-number c n m e h = omega arith
 
 height-number : (n d e : ℕ) → 2 ≤ n → suc (n - 1 + d + e) ≡ n + d + e
 height-number n d e h = omega arith
-
--- a course goes up, and every number of it that is written fits a 12-bit field
-pub record CourseFits (c : Course) : Type 0 where
-  pub rises : c .low < c .high
-  pub from : c .from .x < 4096
-  pub low : c .low < 4096
-  pub column : c .column < 4096
-  pub high : c .high < 4096
-  pub to : c .to .x < 4096
 
 module _ (G : StGraph) where
   -- the cable at line i as it is drawn, and its two ranks
@@ -101,9 +86,6 @@ module _ (G : StGraph) (R : Ranked G) where
   unfolding rankSpot partSpot courseOf course
   by-rank = meetings G _ _ _ _ _ (facts G R)
 
-  lower-inside : (i : ℕ) → i < size G → lower G i < G .parts
-  lower-inside i h = omega (arith, R .rises i h, R .inside i h)
-
   first-at : (i : ℕ) → i < size G → routeAt (layout G) i .first ≡ lower G i
   first-at i h = ap (λ (r : Route). r .first) (route-at G i h)
 
@@ -114,7 +96,7 @@ module _ (G : StGraph) (R : Ranked G) where
   corners-at i h = ap (λ (r : Route). r .corners) (route-at G i h)
 
   first-spot : (i : ℕ) → i < size G → spotOf (layout G) (routeAt (layout G) i .first) ≡ rankSpot G (lower G i)
-  first-spot i h = ap (spotOf (layout G)) (first-at i h) ∙ spot-of G (lower G i) (lower-inside i h)
+  first-spot i h = ap (spotOf (layout G)) (first-at i h) ∙ spot-of G (lower G i) (lower-inside G R i h)
 
   last-spot : (i : ℕ) → i < size G → spotOf (layout G) (routeAt (layout G) i .last) ≡ rankSpot G (upper G i)
   last-spot i h = ap (spotOf (layout G)) (last-at i h) ∙ spot-of G (upper G i) (R .inside i h)
@@ -138,41 +120,13 @@ module _ (G : StGraph) (R : Ranked G) where
         inside = λ k h. h;
         one = λ j k h g e. e;
         spots = spot-of G;
-        first-inside = λ i h. omega (arith, first-at i h, lower-inside i h);
+        first-inside = λ i h. omega (arith, first-at i h, lower-inside G R i h);
         last-inside = λ i h. omega (arith, last-at i h, R .inside i h);
         first-rank = first-at;
         last-rank = last-at;
         same = points-at;
       })
       by-rank)
-
-  -- Crossings, by the test on numbers
-
-  lines-over :
-      (a b : ℕ) → a < size G → b < size G → (a ≡ b → ⊥)
-      → linesCross (line a) (line b) ≡ (over (courseOf G a) (courseOf G b) || over (courseOf G b) (courseOf G a))
-  unfolding courseOf course rankSpot partSpot
-  lines-over a b h g d = linesCross-over G _ _ _ _ _ (facts G R) a b h g d
-
-  cross-lines :
-      (a b : ℕ) → a < b → b < size G
-      → crossPair (layout G) (routeOf G a) (routeOf G b)
-      ≡ (not (shareEnd (routeOf G a) (routeOf G b)) && (over (courseOf G a) (courseOf G b) || over (courseOf G b) (courseOf G a)))
-  unfolding crossPair pointsAt
-  cross-lines a b h g =
-      let f : a < size G = omega arith in
-      ap (λ (x : Bool). not (shareEnd (routeOf G a) (routeOf G b)) && x)
-      (ap₂ linesCross
-      (ap (routePoints (layout G)) (sym (route-at G a f)) ∙ sym (points-at a f))
-      (ap (routePoints (layout G)) (sym (route-at G b g)) ∙ sym (points-at b g))
-      ∙ lines-over a b f g (λ e. omega arith))
-
-  pub crossings-over :
-      crossings (layout G)
-      ≡ pairs (λ a b. not (shareEnd (routeOf G a) (routeOf G b)) && (over (courseOf G a) (courseOf G b) || over (courseOf G b) (courseOf G a))) 0 (size G)
-  crossings-over =
-      crossings-pairs (layout G) (routeOf G) (size G) (routes-are G)
-      ∙ pairs-ext _ _ 0 (size G) (λ a b l h g. cross-lines a b h (omega arith))
 
   -- every rank has a row of its own
   pub same-row : (j k : ℕ) → eqb (row G j) (row G k) ≡ eqb j k

@@ -1,5 +1,5 @@
 -- The bottom and the top connection and the course of a cable, as the code reads them. Assumes nothing.
-use Prim.Native.Nat.{ℕ, _+_, _-_, _<_, _≤_}
+use Prim.Native.Nat.{ℕ, _+_, _-_, _<_}
 use native.Mathlib.Omega.{arith}
 use mathlib.Core.Path.{_≡_, sym, ap, _∙_}
 use mathlib.Core.Bool.{cond}
@@ -18,35 +18,33 @@ use Rattle.layout.specs.declared.Course as code-course
 use Rattle.layout.specs.declared.incident.Incident.{Incident}
 use Rattle.layout.specs.declared.ends.Ends.{Ends}
 use Rattle.layout.specs.declared.courses.Cable.{Cable}
-use Rattle.layout.specs.Columns.{bottomLine, topLine, columns}
+use Rattle.layout.specs.Columns.{bottomLine, topLine, outgoing, incoming, columns}
 use Rattle.layout.specs.Points.{Course, bottomRows, row, partSpot, course, courseOf}
-use Rattle.layout.specs.Arrays.{courseIn, Given}
-use Rattle.layout.specs.Incidents.{at, linesIn, Outgoing, Incoming}
+use Rattle.layout.specs.Arrays.{courseIn, GraphFits}
+use Rattle.layout.specs.Incidents.{at, linesIn, Holds}
 use Rattle.layout.specs.Placements.{ColumnsOf}
-use Rattle.layout.specs.Courses.{EndsOf, cableOf, Reaches, courseBy}
+use Rattle.layout.specs.Courses.{EndsOf, Reaches, courseBy}
 use Rattle.layout.proofs.Insertion.{lines-held}
+use Rattle.layout.proofs.Lengths.{rank-read}
 use Rattle.layout.proofs.Step.{length-parts}
 use Rattle.layout.proofs.Connections.{bottom-fourth, bottom-rows, top-fourth, top-rows}
-use Rattle.layout.proofs.Standing.{four-out, ins-held}
+use Rattle.layout.proofs.Standing.{four-out, four-in}
 
 -- The ends
 
 module _ {G : StGraph} (R : Ranked G) where
-  pub bottom-reads : {f : Incident} {m r : ℕ} → Outgoing (G .lowers) (G .uppers) 0 f → m ≡ size G → r ≡ getD (linesIn f) 3 m → r ≡ bottomLine G
-  bottom-reads h e q = q ∙ rw (lines-held (upper G) (h (G .parts)), e) (bottom-fourth G (four-out R 0))
+  pub bottom-reads : {f : Incident} {m r k : ℕ} → k ≡ 0 → Holds (upper G) f (outgoing G k) → m ≡ size G → r ≡ getD (linesIn f) 3 m → r ≡ bottomLine G
+  bottom-reads z h e q = q ∙ rw (lines-held (upper G) h, e, z) (bottom-fourth G (four-out R 0))
 
-  four-last : length (linesAt (size G) (upper G) (G .parts - 1)) ≤ 4
-  four-last = omega (arith, R .four (G .parts - 1))
-
-  pub top-reads : {f : Incident} {m r : ℕ} (xs : List ℕ) → Incoming (G .uppers) xs (G .parts - 1) f → m ≡ size G → r ≡ getD (linesIn f) 3 m → r ≡ topLine G xs
-  top-reads xs h e q = q ∙ rw (lines-held (at xs) (ins-held R xs (G .parts - 1) h), e) (top-fourth G xs four-last)
+  pub top-reads : {f : Incident} {m r k : ℕ} (xs : List ℕ) → k ≡ G .parts - 1 → Holds (at xs) f (incoming G xs k) → m ≡ size G → r ≡ getD (linesIn f) 3 m → r ≡ topLine G xs
+  top-reads xs z h e q = q ∙ rw (lines-held (at xs) h, e, z) (top-fourth G xs (four-in R (G .parts - 1)))
 
   pub ends-read :
       {e : Ends} {m : ℕ} → m ≡ size G → e .«bottom_line» ≡ bottomLine G → e .«top_line» ≡ topLine G (columns G (G .parts) .cables)
       → e .«bottom_rows» ≡ oneIf (ltb (e .«bottom_line») m) → e .«top_rows» ≡ oneIf (ltb (e .«top_line») m) → EndsOf G e
   ends-read q b t d r = record {
     bottom-rows = d ∙ rw (b, q) (sym (bottom-rows G (four-out R 0)));
-    top-rows = r ∙ rw (t, q) (sym (top-rows G (columns G (G .parts) .cables) four-last));
+    top-rows = r ∙ rw (t, q) (sym (top-rows G (columns G (G .parts) .cables) (four-in R (G .parts - 1))));
     bottom-line = b;
     top-line = t;
   }
@@ -59,48 +57,45 @@ course-same :
 course-same e f g h i = cc
 
 pub course-made :
-    (e : Ends) (c : Cable) (ps : List ℕ) {r : code-course.Course} → spotIn (r .from) ≡ spotAt (getD ps (c .lower) 0) (e .«bottom_rows» + c .lower)
-    → r .low ≡ cond (eqb (c .line) (e .«bottom_line»)) 0 (e .«bottom_rows» + c .lower) → r .column ≡ c .column
-    → r .high ≡ cond (eqb (c .line) (e .«top_line»)) (e .«bottom_rows» + length ps) (e .«bottom_rows» + c .upper)
-    → spotIn (r .to) ≡ spotAt (getD ps (c .upper) 0) (e .«bottom_rows» + c .upper) → courseIn r ≡ courseBy ps e c
+    (e : Ends) (c : Cable) (ps : List ℕ) {r : code-course.Course} → spotIn (r .from) ≡ spotAt (getD ps (c .lower .0) 0) (e .«bottom_rows» + c .lower .0)
+    → r .low ≡ cond (eqb (c .line) (e .«bottom_line»)) 0 (e .«bottom_rows» + c .lower .0) → r .column ≡ c .column
+    → r .high ≡ cond (eqb (c .line) (e .«top_line»)) (e .«bottom_rows» + length ps) (e .«bottom_rows» + c .upper .0)
+    → spotIn (r .to) ≡ spotAt (getD ps (c .upper .0) 0) (e .«bottom_rows» + c .upper .0) → courseIn r ≡ courseBy ps e c
 unfolding courseBy
 course-made e c ps f l x h t = course-same f l x h t
 
 course-reads :
-    {e : Ends} {ps : List ℕ} (G : StGraph) (i a b x : ℕ) → ps ≡ columns G (G .parts) .parts → EndsOf G e → a ≡ lower G i → b ≡ upper G i
-    → x ≡ getD (columns G (G .parts) .cables) i 0 → courseBy ps e (cableOf i a b x) ≡ courseOf G i
+    {e : Ends} {ps : List ℕ} (c : Cable) (G : StGraph) → ps ≡ columns G (G .parts) .parts → EndsOf G e → c .lower .0 ≡ lower G (c .line)
+    → c .upper .0 ≡ upper G (c .line) → c .column ≡ getD (columns G (G .parts) .cables) (c .line) 0 → courseBy ps e c ≡ courseOf G (c .line)
 unfolding courseBy courseOf course partSpot row
-course-reads {e} {ps} G i a b x p h q r s =
+course-reads {e} {ps} c G p h q r s =
     let n : length ps ≡ G .parts = ap length p ∙ length-parts G (G .parts) in
     rw (n, p, h .bottom-rows, h .bottom-line, h .top-line, q, r, s)
 
 -- The cable at line i, of arrays
 
 module _
-    {g : Graph} (v : Given g) {c : code-columns.Columns} (s : ColumnsOf g (g .parts) c) (i : ℕ) (b : i < g .cables)
-    {k : Cable} (q : k ≡ cableOf i (getD (g .lower) i 0) (getD (g .upper) i 0) (getD (c .cables) i 0)) {e : Ends} (h : EndsOf (graphIn g) e)
+    {g : Graph} (v : GraphFits g) {c : code-columns.Columns} (s : ColumnsOf g (g .parts) c) (i : ℕ) (b : i < g .cables)
+    {e : Ends} (h : EndsOf (graphIn g) e)
   where
-    lower-read : getD (g .lower) i 0 ≡ lower (graphIn g) i
-    lower-read = sym (getD-take (g .cables) (g .lower) i 0 b)
-
-    upper-read : getD (g .upper) i 0 ≡ upper (graphIn g) i
-    upper-read = sym (getD-take (g .cables) (g .upper) i 0 b)
+    -- read off the arrays
+    abbrev cableAt : Cable
+    cableAt = record { line = i; lower = getD (g .lower) i (record { 0 = 0 }); upper = getD (g .upper) i (record { 0 = 0 }); column = getD (c .cables) i 0 }
 
     column-read : getD (c .cables) i 0 ≡ getD (columns (graphIn g) (g .parts) .cables) i 0
     column-read = sym (getD-take (g .cables) (c .cables) i 0 b) ∙ ap (λ (l : List ℕ). getD l i 0) (s .cables)
 
-    pub cable-reaches : (n : ℕ) → g .cables ≡ size (graphIn g) → g .parts ≡ n → Reaches n e k
+    pub cable-reaches : (n : ℕ) → g .cables ≡ size (graphIn g) → g .parts ≡ n → Reaches n e cableAt
     unfolding bottomRows
     cable-reaches n f p =
         let u = v .ranked .rises i (omega arith) in
         let w = v .ranked .inside i (omega arith) in
-        rw q
-        (record {
-          lower-part = omega (arith, lower-read);
-          upper-part = omega (arith, upper-read);
+        record {
+          lower-part = omega (arith, rank-read (g .cables) (g .lower) i b);
+          upper-part = omega (arith, rank-read (g .cables) (g .upper) i b);
           most = omega (arith, v .most);
           below = omega (arith, h .bottom-rows, oneIf-le (eqb (length (linesAt (size (graphIn g)) (lower (graphIn g)) 0)) 4));
-        })
+        }
 
-    pub cable-course : {r : code-course.Course} → courseIn r ≡ courseBy (take (g .parts) (c .parts)) e k → courseIn r ≡ courseOf (graphIn g) i
-    cable-course t = t ∙ rw q (course-reads (graphIn g) i _ _ _ (s .parts) h lower-read upper-read column-read)
+    pub cable-course : {r : code-course.Course} → courseIn r ≡ courseBy (take (g .parts) (c .parts)) e cableAt → courseIn r ≡ courseOf (graphIn g) i
+    cable-course t = t ∙ course-reads cableAt (graphIn g) (s .parts) h (rank-read (g .cables) (g .lower) i b) (rank-read (g .cables) (g .upper) i b) column-read

@@ -1,18 +1,29 @@
--- The arrays of a struct that a function is handed are as long as the struct says, so that the slices of a graph's lines lie within them. Assumes nothing.
-use Prim.Native.Nat.{ℕ, _≤_}
+-- The arrays of a struct that a function is handed are as long as the struct says, so that a graph's lines and ranks lie within them. Assumes nothing.
+use Prim.Native.Nat.{ℕ, _<_, _≤_}
 use native.Mathlib.Omega.{arith}
 use mathlib.Core.Path.{_≡_, sym, _∙_}
-use mathlib.Core.List.{List}
-use lib.ListN.{length, take, length-map}
-use lib.Seq.{length-take-le}
+use mathlib.Core.List.{List, map}
+use lib.ListN.{length, getD, take, length-map}
+use lib.Seq.{length-take-le, getD-take}
 use mir.Val.{Val}
 use denote.Laws.{Is}
 use denote.Struct.Declared.{row}
+use Rattle.words.specs.Limits.{mostCables}
+use Rattle.words.specs.declared.Rank.{Rank}
+use Rattle.words.proofs.Rank as of-rank
 use Rattle.order.specs.declared.Graph.{Graph}
+use Rattle.order.specs.Graph.{size}
+use Rattle.order.specs.Arrays.{graphIn}
+use Rattle.order.specs.Ranking.{rankNumbers}
 use Rattle.order.proofs.Graph as of-graph
+use Rattle.order.proofs.LineRanks.{rankAt, rank-number}
 use Rattle.layout.specs.declared.Columns.{Columns}
 use Rattle.layout.proofs.Columns as of-columns
-use Rattle.layout.specs.Arrays.{Given}
+use Rattle.layout.specs.Arrays.{GraphFits}
+
+-- of the first m ranks of an array, the one at place i
+pub rank-read : (m : ℕ) (ranks : List Rank) (i : ℕ) → i < m → rankAt ranks i ≡ getD (take m (rankNumbers ranks)) i 0
+rank-read m ranks i h = rank-number ranks i ∙ sym (getD-take m (rankNumbers ranks) i 0 h)
 
 -- the first m elements of a list of n can be lent
 pub record Lent (m : ℕ) (l : List ℕ) : Type 0 where
@@ -22,17 +33,20 @@ pub record Lent (m : ℕ) (l : List ℕ) : Type 0 where
 lent : {m n : ℕ} (l : List ℕ) → m ≤ n → length l ≡ n → Lent m l
 lent {m} {n} l h e = let b : m ≤ length l = omega arith in record { within = b; lines = sym (length-take-le m l b) }
 
-module _ {g : Graph} (v : Given g) where
-  module _ {vs : List Val} (h : Is (row of-graph.the-type) g vs) where
-    pub lower-lent : Lent (g .cables) (g .lower)
-    lower-lent = lent (g .lower) (v .cables) (sym (length-map (g .lower) (λ x. x)) ∙ h .1 .1 .1 .1 .0 .1 .0 .1)
+-- what the code knows of a graph that it is handed, by its type: the array of lower ranks has its length
+abbrev pub AllPlaces : Graph → Type 0
+AllPlaces g = length (map (of-rank.the-type .to) (g .lower)) ≡ mostCables
 
-    pub upper-lent : Lent (g .cables) (g .upper)
-    upper-lent = lent (g .upper) (v .cables) (sym (length-map (g .upper) (λ x. x)) ∙ h .1 .1 .1 .1 .1 .0 .1 .0 .1)
+module _ {g : Graph} (v : GraphFits g) where
+  pub lines-are : AllPlaces g → g .cables ≡ size (graphIn g)
+  unfolding rankNumbers
+  lines-are room =
+      let long : length (rankNumbers (g .lower)) ≡ mostCables = length-map (g .lower) (λ (k : Rank). k .0) ∙ sym (length-map (g .lower) (of-rank.the-type .to)) ∙ room in
+      sym (length-take-le (g .cables) (rankNumbers (g .lower)) (omega (arith, v .cables)))
+
+  pub lines-count : {vs : List Val} → Is (row of-graph.the-type) g vs → g .cables ≡ size (graphIn g)
+  lines-count h = lines-are (h .1 .1 .1 .1 .0 .1 .0 .1)
 
   module _ (c : Columns) {vs : List Val} (h : Is (row of-columns.the-type) c vs) where
-    pub cables-lent : Lent (g .cables) (c .cables)
-    cables-lent = lent (c .cables) (v .cables) (sym (length-map (c .cables) (λ x. x)) ∙ h .1 .1 .0 .1 .0 .1)
-
     pub parts-lent : Lent (g .parts) (c .parts)
     parts-lent = lent (c .parts) (v .most) (sym (length-map (c .parts) (λ x. x)) ∙ h .1 .1 .1 .0 .1 .0 .1)

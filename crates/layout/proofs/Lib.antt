@@ -19,6 +19,7 @@ pub mod Meet
 pub mod Maps
 pub mod Cross
 pub mod Drawn
+pub mod Computing
 pub mod Worked
 pub mod Connections
 pub mod Insertion

@@ -1,6 +1,6 @@
 -- The facts of a layout hold after every strictly increasing map of its columns and of its rows, and so does the meeting theorem.
 -- Assumes nothing.
-use Prim.Native.Nat.{ℕ, _<_}
+use Prim.Native.Nat.{ℕ}
 use mathlib.Core.Path.{_≡_}
 use mathlib.Core.Logic.{_⊎_, inl, inr}
 use Rattle.order.specs.Graph.{StGraph, size, lower, upper}

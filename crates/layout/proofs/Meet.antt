@@ -9,7 +9,7 @@ use lib.ListN.{length}
 use Rattle.order.specs.Graph.{StGraph, size, lower, upper}
 use Rattle.drawing.specs.Spots.{Spot}
 use Rattle.layout.specs.Points.{Course, pointsOf}
-use Rattle.drawing.specs.Lines.{point, NoPoint, CrossesOver, CrossingAt, Meetings}
+use Rattle.drawing.specs.Lines.{NoPoint, CrossesOver, CrossingAt, Meetings}
 use Rattle.layout.proofs.Facts.{Facts}
 use Rattle.drawing.proofs.Spots.{spot-path}
 use Rattle.layout.proofs.Segments.{Proper, Drawn, drawn}

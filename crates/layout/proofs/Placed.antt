@@ -13,13 +13,14 @@ use lib.Dec.{eqb}
 use borrow.Author.Tests.{eq-eqb, ne-eqb}
 use Rattle.lists.specs.Select.{indexOf}
 use Rattle.lists.proofs.Select.{getD-mem}
-use Rattle.order.specs.Graph.{StGraph, size, lower, upper, Ranked, linesAt}
+use Rattle.order.specs.Graph.{StGraph, size, lower, upper, Ranked}
+use Rattle.order.proofs.Graphs.{lower-inside}
 use Rattle.layout.specs.Columns.{bottomLine, topLine, outgoing, incoming, columns}
 use Rattle.layout.specs.Points as points
-use Rattle.layout.specs.Points.{bottomRows, partSpot, course, rankSpot, courseOf}
+use Rattle.layout.specs.Points.{partSpot, course, rankSpot, courseOf}
 use Rattle.layout.proofs.Facts.{Facts}
 use Rattle.layout.proofs.Moved.{moved-none}
-use Rattle.layout.proofs.Step.{cable-kept, length-cables, outgoing-e, length-outgoing, outPlace-below, outPlace-one, inPlace-below, inPlace-one}
+use Rattle.layout.proofs.Step.{cable-kept, length-cables, outgoing-e, outPlace-below, outPlace-one, inPlace-below, inPlace-one}
 use Rattle.layout.proofs.Step as step
 use Rattle.layout.proofs.ExtraRows.{bottom-row, bottom-place, place-bottom, top-place, place-top}
 use Rattle.layout.proofs.Invariant.{Leaves, Enters, Meets, Passes, by, bottom, top, Invariant, invariant, outs-ins, table, fourth}
@@ -72,9 +73,6 @@ module _ (G : StGraph) where
   row-one j k h = omega arith
 
   module _ (R : Ranked G) where
-    lower-inside : (i : ℕ) → i < size G → lower G i < G .parts
-    lower-inside i h = omega (arith, R .rises i h, R .inside i h)
-
     -- an outgoing cable that is not the bottom connection is one of the first three
     leaves-three : (i : ℕ) → i < size G → (i ≡ bottomLine G → ⊥) → outPlace (lower G i) i < 3
     unfolding step.outPlace
@@ -82,9 +80,9 @@ module _ (G : StGraph) where
       where
         go : Dec (outPlace (lower G i) i ≡ 3) → outPlace (lower G i) i < 3
         go (yes q) =
-            let e : lower G i ≡ 0 = fourth G R (lower G i) (lower-inside i h) i h refl q .0 in
+            let e : lower G i ≡ 0 = fourth G R (lower G i) (lower-inside G R i h) i h refl q .0 in
             absurd (d (place-bottom G R i h e (sym (ap (λ (r : ℕ). outPlace r i) e) ∙ q)))
-        go (no q) = omega (arith, outPlace-below G (lower G i) i h refl, outs-ins G R (lower G i) (lower-inside i h))
+        go (no q) = omega (arith, outPlace-below G (lower G i) i h refl, outs-ins G R (lower G i) (lower-inside G R i h))
 
     low-of : (i : ℕ) → i < size G → Low i
     unfolding courseOf course step.outPlace points.row
@@ -270,7 +268,7 @@ module _ (G : StGraph) where
       climb = λ i h l. top-only i h l .0;
       one-dip = one-bottom;
       one-climb = one-top;
-      lanes = λ i j h g d a b. complete .apart i j h g d (lower-inside i h) (lower-inside j g) (overlap i j h g a) (overlap j i g h b);
+      lanes = λ i j h g d a b. complete .apart i j h g d (lower-inside G R i h) (lower-inside G R j g) (overlap i j h g a) (overlap j i g h b);
       passes = λ i k h l a b. complete .stands k l .passes i h (passes-row i k h l a b);
       left = λ i j k h g l d a b. complete .stands k l .left i j h g d (meets i k h l a) (meets j k g l b);
       right = λ i j k h g l d a b. complete .stands k l .right i j h g d (meets i k h l a) (meets j k g l b);

@@ -20,7 +20,7 @@ use Rattle.layout.specs.Points.{Course, turns, pointsOf, cornersOf, bott
 use Rattle.layout.proofs.Step.{cable, part, width}
 use Rattle.layout.proofs.Width.{width-all, cable-below, part-below, reached}
 use Rattle.layout.proofs.Own.{lower-owns, upper-owns}
-use Rattle.layout.proofs.Turns.{differs, points-all, points-split, turns-points, corners-points, length-corners}
+use Rattle.layout.proofs.Turns.{differs, points-all, points-split, turns-points, length-corners}
 use Rattle.layout.proofs.ExtraRows.{bottom-count, top-count, bottom-row, top-row, top-some, bottomRows-le, topRows-le, differs-lane}
 
 -- On plain numbers and tests
@@ -32,11 +32,6 @@ lane-le false r = omega arith
 lane-ge : (b : Bool) (u r : ℕ) → r ≤ u → r ≤ cond b u r
 lane-ge true u r h = h
 lane-ge false u r h = omega arith
-
-one-of : (b t : Bool) → 0 < oneIf b + oneIf t → (b ≡ true) ⊎ (t ≡ true)
-one-of true t h = inl refl
-one-of false true h = inr refl
-one-of false false h = absurd (omega arith)
 
 over-two : (c s : ℕ) → c ≤ 2 + s → oneIf (ltb 2 c) ≤ s
 over-two c s h = go (decLt 2 c)
@@ -118,12 +113,6 @@ module _ (G : StGraph) (H : Ranked G) where
   corners-four i h =
       omega (arith, corners-le i h, oneIf-le (eqb i (bottomLine G)), oneIf-le (eqb i (topLine G (columns G (G .parts) .cables))))
 
-  -- more than two only at a bottom or a top connection
-  pub corners-many :
-      (i : ℕ) → i < size G → 2 < length (cornersOf (courseOf G i))
-      → (eqb i (bottomLine G) ≡ true) ⊎ (eqb i (topLine G (columns G (G .parts) .cables)) ≡ true)
-  corners-many i h l = one-of (eqb i (bottomLine G)) (eqb i (topLine G (columns G (G .parts) .cables))) (omega (arith, corners-le i h))
-
   -- at most two cables have more than two corners
   pub corners-many-count : count (λ i. ltb 2 (length (cornersOf (courseOf G i)))) (range (size G)) ≤ 2
   corners-many-count =
@@ -170,11 +159,6 @@ module _ (G : StGraph) (H : Ranked G) where
       let u : c .high < G .parts + bottomRows G + topRows G = high-below i h in
       let l : c .low < G .parts + bottomRows G + topRows G = omega (arith, rising i h) in
       points-all Within c f (f .0, l) (x, l) (x, u) (t .0, u) t s g
-
-  pub corners-within :
-      (i : ℕ) → i < size G → (s : Spot) → List·Memᴰ s (cornersOf (courseOf G i))
-      → (s .x < columns G (G .parts) .count) × (s .y < G .parts + bottomRows G + topRows G)
-  corners-within i h s g = points-within i h s (corners-points (courseOf G i) (λ e. omega (arith, rising i h)) g)
 
   -- a point is a part's spot or a corner
   abbrev Found : (Spot → ℕ) → ℕ → Type 0

@@ -18,9 +18,9 @@ use Rattle.order.specs.declared.Graph.{Graph}
 use Rattle.layout.specs.declared.Columns as code-columns
 use Rattle.layout.specs.declared.incident.Incident.{Incident}
 use Rattle.layout.specs.declared.placing.Placement.{Placement}
-use Rattle.layout.specs.Columns.{Columns, newLast, moved, columnAt, incoming, taken, step, columns}
-use Rattle.layout.specs.Arrays.{Given}
-use Rattle.layout.specs.Incidents.{at, Holds, Outgoing, Incoming}
+use Rattle.layout.specs.Columns.{newLast, moved, columnAt, outgoing, incoming, taken, step, columns}
+use Rattle.layout.specs.Arrays.{GraphFits}
+use Rattle.layout.specs.Incidents.{at, Holds}
 use Rattle.layout.specs.Placements.{ColumnsOf, PlacementOf, PlacedAt, PlacementFits, movedBy, cableBy}
 use Rattle.layout.proofs.Insertion.{lines-held, keys-held}
 use Rattle.layout.proofs.Step.{cable, part, width, takenColumn, outs, ins, lefts, rights, length-outgoing, length-incoming}
@@ -55,20 +55,21 @@ module _ {G : StGraph} (R : Ranked G) where
   pub four-out : (k : ℕ) → length (linesAt (size G) (lower G) k) ≤ 4
   four-out k = omega (arith, R .four k)
 
-  pub four-in : (k : ℕ) → length (linesAt (length (G .uppers)) (upper G) k) ≤ 4
-  four-in k = rw (R .lines) (omega (arith, R .four k))
+  pub four-in : (k : ℕ) → length (linesAt (size G) (upper G) k) ≤ 4
+  four-in k = omega (arith, R .four k)
 
-  pub outs-four : {f : Incident} (k : ℕ) → Outgoing (G .lowers) (G .uppers) k f → f .count ≤ 4
-  outs-four k h = omega (arith, h (G .parts) .count, length-outgoing G k, four-out k)
+  -- by another count of lines that is the same
+  pub few-out : {m : ℕ} → m ≡ size G → (k : ℕ) → length (linesAt m (lower G) k) ≤ 4
+  few-out e k = rw e (four-out k)
 
-  pub ins-held : {f : Incident} (xs : List ℕ) (k : ℕ) → Incoming (G .uppers) xs k f → Holds (at xs) f (incoming G xs k)
-  ins-held xs k h = h (G .parts) (G .lowers) (sym (R .lines))
+  pub few-in : {m : ℕ} → m ≡ size G → (k : ℕ) → length (linesAt m (upper G) k) ≤ 4
+  few-in e k = rw e (four-in k)
 
-  ins-count : {f : Incident} (xs : List ℕ) (k : ℕ) → Incoming (G .uppers) xs k f → f .count ≡ length (linesAt (size G) (upper G) k)
-  ins-count xs k h = ins-held xs k h .count ∙ length-incoming G xs k
+  pub outs-four : {f : Incident} (k : ℕ) → Holds (upper G) f (outgoing G k) → f .count ≤ 4
+  outs-four k h = omega (arith, h .count, length-outgoing G k, four-out k)
 
-  pub ins-four : {f : Incident} (xs : List ℕ) (k : ℕ) → Incoming (G .uppers) xs k f → f .count ≤ 4
-  ins-four xs k h = omega (arith, ins-count xs k h, R .four k)
+  pub ins-four : {f : Incident} (xs : List ℕ) (k : ℕ) → Holds (at xs) f (incoming G xs k) → f .count ≤ 4
+  ins-four xs k h = omega (arith, h .count, length-incoming G xs k, four-in k)
 
 -- Where rank k stands
 
@@ -85,20 +86,20 @@ module _ {G : StGraph} {k : ℕ} {p : Placement} (q : PlacedAt G k p) where
   unfolding width
   last-same = q .last ∙ rw (left-same, right-same)
 
-module _ {g : Graph} (v : Given g) {k : ℕ} {c : code-columns.Columns} (s : ColumnsOf g k c) where
+module _ {g : Graph} (v : GraphFits g) {k : ℕ} {c : code-columns.Columns} (s : ColumnsOf g k c) where
   pub stands :
-      {ins outs : Incident} {p : Placement} → Outgoing (graphIn g .lowers) (graphIn g .uppers) k outs
-      → Incoming (graphIn g .uppers) (take (g .cables) (c .cables)) k ins → PlacementOf ins outs (c .count) p → PlacedAt (graphIn g) k p
+      {ins outs : Incident} {p : Placement} → Holds (upper (graphIn g)) outs (outgoing (graphIn g) k)
+      → Holds (at (take (g .cables) (c .cables))) ins (incoming (graphIn g) (take (g .cables) (c .cables)) k) → PlacementOf ins outs (c .count) p
+      → PlacedAt (graphIn g) k p
   unfolding taken
   stands {ins} ho hi e =
-      let xs = take (g .cables) (c .cables) in
-      let n : ins .count ≡ length (linesAt (size (graphIn g)) (upper (graphIn g)) k) = ins-count (v .ranked) xs k hi in
-      let h : Holds (at (columns (graphIn g) k .cables)) ins (incoming (graphIn g) (columns (graphIn g) k .cables) k) = rw (s .cables) at (ins-held (v .ranked) xs k hi) in
+      let n : ins .count ≡ length (linesAt (size (graphIn g)) (upper (graphIn g)) k) = hi .count ∙ length-incoming (graphIn g) (take (g .cables) (c .cables)) k in
+      let h : Holds (at (columns (graphIn g) k .cables)) ins (incoming (graphIn g) (columns (graphIn g) k .cables) k) = rw (s .cables) at hi in
       record {
-        opens = rw (e .opens) (ho (g .parts));
+        opens = rw (e .opens) ho;
         column = e .column ∙ rw (keys-held _ h, h .count);
-        left = e .left ∙ rw (n, ho (g .parts) .count);
-        right = e .right ∙ rw (n, ho (g .parts) .count);
+        left = e .left ∙ rw (n, ho .count);
+        right = e .right ∙ rw (n, ho .count);
         last = e .last ∙ rw (s .count);
       }
 
@@ -141,7 +142,7 @@ module _ {g : Graph} (v : Given g) {k : ℕ} {c : code-columns.Columns} (s : Col
 module _ {g : Graph} {k : ℕ} {c : code-columns.Columns} (s : ColumnsOf g k c) {p : Placement} (q : PlacedAt (graphIn g) k p) where
   pub columns-next :
       {ys qs : List ℕ} {n : ℕ} → g .cables ≡ size (graphIn g)
-      → take (size (graphIn g)) ys ≡ tabulate (size (graphIn g)) (cableBy (graphIn g .lowers) k p (c .cables))
+      → take (g .cables) ys ≡ tabulate (g .cables) (cableBy (graphIn g .lowers) k p (c .cables))
       → take (k + 1) qs ≡ map (movedBy p) (take k (c .parts)) ++ (p .column + p .left) ∷ []
       → n ≡ oneIf (eqb (p .outs .count) 4)
       → ColumnsOf g (k + 1) (record { cables = ys; parts = qs; count = p .last + n })
@@ -150,14 +151,14 @@ module _ {g : Graph} {k : ℕ} {c : code-columns.Columns} (s : ColumnsOf g k c) 
       rw add-one
       (record {
         cables =
-            ap (λ (m : ℕ). take m ys) e
-            ∙ hy
+            hy
+            ∙ ap (λ (m : ℕ). tabulate m (cableBy (graphIn g .lowers) k p (c .cables))) e
             ∙ opening-lines (graphIn g .lowers) k _ (p .column) (p .left) (p .right) (p .last) (g .cables) (c .cables) e
             ∙ opening-same (graphIn g .lowers) k (lines-held (upper (graphIn g)) (q .opens)) (q .column) (left-same q) (right-same q) (last-same q) (s .cables);
         parts = (rw add-one at hq) ∙ standing-same (q .column) (left-same q) (right-same q) (s .parts);
         count = ap₂ _+_ (last-same q) (hn ∙ ap (λ (j : ℕ). oneIf (eqb j 4)) (q .opens .count));
       })
 
-pub columns-start : {g : Graph} {ps : List ℕ} → Given g → g .cables ≡ size (graphIn g) → ColumnsOf g 0 (record { cables = replicate mostCables 0; parts = ps; count = 1 })
+pub columns-start : {g : Graph} {ps : List ℕ} → GraphFits g → g .cables ≡ size (graphIn g) → ColumnsOf g 0 (record { cables = replicate mostCables 0; parts = ps; count = 1 })
 unfolding columns
 columns-start {g} v e = record { cables = take-replicate (g .cables) mostCables 0 (v .cables) ∙ ap (λ (m : ℕ). replicate m 0) e; parts = refl; count = refl }

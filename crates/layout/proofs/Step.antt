@@ -9,11 +9,11 @@ use lib.ListN.{length, getD, length-append, length-map, length-replicate, getD-r
 use lib.Seq.{getD-at}
 use lib.Dec.{eqb}
 use borrow.Author.Tests.{eqb-true, eq-eqb, ne-eqb}
-use Rattle.lists.specs.Select.{range, without, lastly, indexOf, sortBy, oneIf}
+use Rattle.lists.specs.Select.{range, without, indexOf, sortBy, oneIf}
 use Rattle.lists.proofs.Select.{getD-tabulate, length-tabulate, getD-map, getD-mem, filter-e, filter-i, range-e, range-i, Distinct, distinct-range, distinct-filter, distinct-places, indexOf-below, getD-indexOf, indexOf-one}
 use Rattle.lists.proofs.Filters.{without-absent}
 use Rattle.lists.proofs.Lastly.{lastly-e, lastly-i, length-lastly, distinct-lastly, lastly-last, lastly-rises, without-most}
-use Rattle.lists.proofs.Sort.{sortBy-e, sortBy-i, length-sortBy, distinct-sortBy, rising-sortBy, rising-places}
+use Rattle.lists.proofs.Sort.{sortBy-e, sortBy-i, length-sortBy, distinct-sortBy, rising-sortBy}
 use Rattle.order.specs.Graph.{StGraph, size, lower, upper, linesAt}
 use Rattle.layout.specs.Columns.{takenPlace, newLeft, newRight, newLast, moved, bottomLine, topLine, outgoing, incoming, taken, columnAt, step, columns}
 

@@ -3,14 +3,13 @@ use Prim.Native.Nat.{ℕ, suc, _+_, _-_, _≤_}
 use mathlib.Core.Path.{_≡_, refl, sym, _∙_, ap, subst}
 use mathlib.Core.Logic.{_⊎_, inl, inr, ⊎-elim}
 use mathlib.Core.Bool.{Bool, true, false, not, and-true}
-use mathlib.Core.List.{List, [], _∷_, _++_, List·Memᴰ, List·Memᴰ·not-nil, List·Memᴰ·head, List·Memᴰ·tail, List·Memᴰ·cases-cons, Memᴰ·append-left}
+use mathlib.Core.List.{List, [], _∷_, _++_, List·Memᴰ, List·Memᴰ·not-nil, List·Memᴰ·head, List·Memᴰ·tail, List·Memᴰ·cases-cons}
 use native.Mathlib.Omega.{arith}
 use lib.Dec.{eqb}
 use lib.ListN.{length, drop, length-take, length-drop, length-append}
 use lib.Seq.{take-at}
-use borrow.Author.Tests.{eqb-true, eq-eqb, ne-eqb}
+use borrow.Author.Tests.{eq-eqb, ne-eqb}
 use Rattle.lists.specs.Select.{oneIf, consIf}
-use Rattle.lists.proofs.Bools.{and-e}
 use Rattle.lists.proofs.Tests.{eqb-sym}
 use Rattle.drawing.specs.Spots.{Spot, sameSpot}
 use Rattle.drawing.proofs.Spots.{same-spot-e}
@@ -172,6 +171,3 @@ pub length-corners :
 unfolding cornersOf inner
 length-corners c n =
     omega (arith, length-take (length (pointsOf c) - 2) (drop 1 (pointsOf c)), length-drop 1 (pointsOf c), length-points c n)
-
-pub corners-points : {s : Spot} (c : Course) → (c .low ≡ c .high → ⊥) → List·Memᴰ s (cornersOf c) → List·Memᴰ s (pointsOf c)
-corners-points {s} c n h = subst (λ (l : List Spot). List·Memᴰ s l) (sym (points-split c n)) (List·Memᴰ·tail (Memᴰ·append-left (c .to ∷ []) h))

@@ -12,7 +12,7 @@ use Rattle.lists.specs.Select.{range, count, oneIf}
 use Rattle.lists.proofs.Select.{getD-mem, length-filter, indexOf-getD}
 use Rattle.lists.proofs.Tests.{oneIf-le}
 use Rattle.lists.proofs.Sums.{count-key, count-all, count-none}
-use Rattle.order.specs.Graph.{StGraph, size, lower, upper, linesAt, Ranked}
+use Rattle.order.specs.Graph.{StGraph, size, lower, linesAt, Ranked}
 use Rattle.layout.specs.Columns.{newRight, newLast, moved, outgoing, columns}
 use Rattle.layout.proofs.Step.{outgoing-e, length-outgoing, distinct-outgoing, cable, part, width, outs, ins, outPlace, inAt, takenColumn, lefts, rights, cable-start, width-start, cable-opened, cable-kept, length-cables, part-kept, part-opened, width-suc, outPlace-below, inPlace-below, takenColumn-none, takenColumn-comes}
 use Rattle.layout.proofs.Moved.{moved-left, moved-right, moved-none}

@@ -4,15 +4,15 @@ use Prim.Native.Nat.{ℕ, zero, suc, _+_, _<_, _≤_}
 use native.Mathlib.Omega.{arith}
 use native.Mathlib.Decide.{decLt}
 use mathlib.Core.Path.{_≡_, refl}
-use mathlib.Core.List.{List, [], _∷_, map}
-use lib.ListN.{length, getD}
-use Rattle.lists.specs.Select.{upFrom, range, tabulate, filter, without, lastly, indexOf, insertBy, sortBy}
+use mathlib.Core.List.{List, [], _∷_}
+use lib.ListN.{length}
+use Rattle.lists.specs.Select.{upFrom, range, tabulate, filter}
 use Rattle.lists.proofs.Select.{getD-mem}
-use Rattle.order.specs.Graph.{StGraph, size, lower, upper, linesAt, Ranked}
+use Rattle.order.specs.Graph.{StGraph, lower, upper, linesAt, Ranked}
 use Rattle.layout.proofs.Step.{linesAt-e}
-use Rattle.layout.specs.Columns.{takenPlace, newLeft, newRight, newLast, moved, bottomLine, topLine, outgoing, incoming, taken, columnAt, step, columns}
-use Rattle.drawing.specs.Spots.{Spot, sameSpot}
-use Rattle.layout.specs.Points.{turns, dropRepeats, pointsOf, inner, cornersOf, bottomRows, topRows, row, partSpot, course, rankSpot, courseOf}
+use Rattle.drawing.specs.Spots.{Spot}
+use Rattle.layout.specs.Points.{cornersOf, rankSpot, courseOf}
+use Rattle.layout.proofs.Computing.{layout-computing}
 
 abbrev at : ℕ → ℕ → Spot
 at x y = record { x = x; y = y }
@@ -44,7 +44,7 @@ record Worked : Type 0 where
   d-line-3 : corners d 3 ≡ at 4 0 ∷ at 6 0 ∷ at 6 6 ∷ at 2 6 ∷ []
 
 worked : Worked
-unfolding upFrom range tabulate filter indexOf insertBy sortBy linesAt takenPlace newLeft newRight newLast moved lastly without bottomLine topLine outgoing incoming taken columnAt step columns sameSpot turns dropRepeats pointsOf inner cornersOf bottomRows topRows row partSpot course rankSpot courseOf
+unfolding layout-computing
 worked = record {
   b-line-2 = refl;
   b-line-3 = refl;

@@ -1,10 +1,9 @@
 -- How the code's structs of a layout read in the definitions. Assumes nothing.
 use Prim.Native.Nat.{ℕ, _<_, _≤_}
 use mathlib.Core.Path.{_≡_}
-use mathlib.Core.List.{List}
 use lib.ListN.{getD, take}
 use Rattle.words.specs.Limits.{mostParts, mostCables}
-use Rattle.order.specs.Graph.{StGraph, Ranked}
+use Rattle.order.specs.Graph.{Ranked}
 use Rattle.order.specs.Arrays.{graphIn}
 use Rattle.order.specs.declared.Graph.{Graph}
 use Rattle.drawing.specs.Spots.{spotIn}
@@ -21,15 +20,15 @@ abbrev pub noCourse : code-course.Course
 noCourse = record { from = record { x = 0; y = 0 }; low = 0; column = 0; high = 0; to = record { x = 0; y = 0 } }
 
 -- a graph that the layout may start from: ranked, and within the arrays
-pub record Given (g : Graph) : Type 0 where
+pub record GraphFits (g : Graph) : Type 0 where
   pub ranked : Ranked (graphIn g)
   pub cables : g .cables ≤ mostCables
   pub least : 2 ≤ g .parts
   pub most : g .parts ≤ mostParts
 
 -- l is the layout of its graph
-pub record Laid (l : Layout) : Type 0 where
-  pub given : Given (l .graph)
+pub record IsLayout (l : Layout) : Type 0 where
+  pub fits : GraphFits (l .graph)
   pub parts : take (l .graph .parts) (l .columns .parts) ≡ columns (graphIn (l .graph)) (l .graph .parts) .parts
   pub bottom : l .«bottom_rows» ≡ bottomRows (graphIn (l .graph))
   pub top : l .«top_rows» ≡ topRows (graphIn (l .graph))

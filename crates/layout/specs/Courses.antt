@@ -20,22 +20,28 @@ pub record EndsOf (G : StGraph) (e : Ends) : Type 0 where
   pub bottom-line : e .«bottom_line» ≡ bottomLine G
   pub top-line : e .«top_line» ≡ topLine G (columns G (G .parts) .cables)
 
-abbrev pub cableOf : ℕ → ℕ → ℕ → ℕ → Cable
-cableOf i a b x = record { line = i; lower = a; upper = b; column = x }
-
 -- the cable's parts are among the n whose columns are given, and its rows are within 16 bits
 pub record Reaches (n : ℕ) (e : Ends) (c : Cable) : Type 0 where
-  pub lower-part : c .lower < n
-  pub upper-part : c .upper < n
+  pub lower-part : c .lower .0 < n
+  pub upper-part : c .upper .0 < n
   pub most : n ≤ mostParts
   pub below : e .«bottom_rows» ≤ 1
+
+-- a course goes up, and every number of it that is written fits a 12-bit field
+pub record CourseFits (c : Course) : Type 0 where
+  pub rises : c .low < c .high
+  pub from : c .from .x < 4096
+  pub low : c .low < 4096
+  pub column : c .column < 4096
+  pub high : c .high < 4096
+  pub to : c .to .x < 4096
 
 -- the cable's course, where the parts have the columns ps
 unfoldable pub courseBy : List ℕ → Ends → Cable → Course
 courseBy ps e c = record {
-  from = spotAt (getD ps (c .lower) 0) (e .«bottom_rows» + c .lower);
-  low = cond (eqb (c .line) (e .«bottom_line»)) 0 (e .«bottom_rows» + c .lower);
+  from = spotAt (getD ps (c .lower .0) 0) (e .«bottom_rows» + c .lower .0);
+  low = cond (eqb (c .line) (e .«bottom_line»)) 0 (e .«bottom_rows» + c .lower .0);
   column = c .column;
-  high = cond (eqb (c .line) (e .«top_line»)) (e .«bottom_rows» + length ps) (e .«bottom_rows» + c .upper);
-  to = spotAt (getD ps (c .upper) 0) (e .«bottom_rows» + c .upper);
+  high = cond (eqb (c .line) (e .«top_line»)) (e .«bottom_rows» + length ps) (e .«bottom_rows» + c .upper .0);
+  to = spotAt (getD ps (c .upper .0) 0) (e .«bottom_rows» + c .upper .0);
 }

@@ -1,6 +1,5 @@
 -- The drawing of an st-graph, whose parts are numbered by rank. Assumes nothing.
-use Prim.Native.Nat.{ℕ, _+_, _-_}
-use mathlib.Core.List.{List}
+use Prim.Native.Nat.{_+_, _-_}
 use Rattle.lists.specs.Select.{tabulate}
 use Rattle.order.specs.Graph.{StGraph, size, lower, upper}
 use Rattle.drawing.specs.Drawing.{Drawing}

@@ -1,5 +1,5 @@
 -- The test on numbers that the code counts crossings by. Assumes nothing.
-use Prim.Native.Nat.{ℕ, min, max}
+use Prim.Native.Nat.{min, max}
 use mathlib.Core.Bool.{Bool, _&&_}
 use lib.Dec.{ltb}
 use Rattle.layout.specs.Points.{Course}

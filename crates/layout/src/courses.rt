@@ -4,6 +4,7 @@ use crate::Course;
 use crate::ends::Ends;
 use drawing::Spot;
 use order::Graph;
+use words::Rank;
 use words::limits::MOST_CABLES;
 ghost use mathlib.Core.Path.{_≡_};
 ghost use mathlib.Core.Bool.{cond};
@@ -12,28 +13,17 @@ ghost use lib.ListN.{length, getD};
 ghost use Rattle.order.specs.Arrays.{graphIn};
 ghost use Rattle.drawing.specs.Spots.{spotAt, spotIn};
 ghost use Rattle.layout.specs.Points.{courseOf};
-ghost use Rattle.layout.specs.Arrays.{Given, courseIn, noCourse};
+ghost use Rattle.layout.specs.Arrays.{GraphFits, courseIn, noCourse};
 ghost use Rattle.layout.specs.Incidents.{at};
 ghost use Rattle.layout.specs.Placements.{ColumnsOf};
-ghost use Rattle.layout.specs.Courses.{EndsOf, cableOf, Reaches, courseBy};
+ghost use Rattle.layout.specs.Courses.{EndsOf, Reaches, courseBy};
 
 // A cable: its line, the ranks of its lower and its upper part, and its column.
 pub struct Cable {
     pub line: usize,
-    pub lower: u16,
-    pub upper: u16,
+    pub lower: Rank,
+    pub upper: Rank,
     pub column: u16,
-}
-
-fn cable_of(line: usize, lower: u8, upper: u8, column: u16) -> Cable
-    ensures { λ r. ⌜ r ≡ cableOf line lower upper column ⌝ }
-{
-    Cable {
-        line,
-        lower: lower as u16,
-        upper: upper as u16,
-        column,
-    }
 }
 
 fn pick(b: bool, x: u16, y: u16) -> u16
@@ -43,15 +33,15 @@ fn pick(b: bool, x: u16, y: u16) -> u16
 }
 
 // 'Rank k stands in row d + k.'
-fn part_spot(parts: &[u16], bottom_rows: u16, k: u16) -> Spot
-    requires { ⌜ k < length (now parts) ⌝ }
-    requires { ⌜ «bottom_rows» + k < 65536 ⌝ }
-    ensures { λ r. ⌜ spotIn r ≡ spotAt (at (now (parts .entry)) k) («bottom_rows» + k) ⌝ }
+fn part_spot(parts: &[u16], bottom_rows: u16, k: Rank) -> Spot
+    requires { ⌜ k .0 < length (now parts) ⌝ }
+    requires { ⌜ «bottom_rows» + k .0 < 65536 ⌝ }
+    ensures { λ r. ⌜ spotIn r ≡ spotAt (at (now (parts .entry)) (k .0)) («bottom_rows» + k .0) ⌝ }
 {
-    let rank = k as usize;
+    let rank = k.number();
     Spot {
-        x: parts[rank],
-        y: bottom_rows + k,
+        x: parts[rank as usize],
+        y: bottom_rows + rank,
     }
 }
 
@@ -64,12 +54,16 @@ fn course_of(parts: &[u16], ends: Ends, cable: Cable) -> Course
     let n = parts.len() as u16;
     Course {
         from: part_spot(parts, bottom_rows, cable.lower),
-        low: pick(cable.line == ends.bottom_line, 0, bottom_rows + cable.lower),
+        low: pick(
+            cable.line == ends.bottom_line,
+            0,
+            bottom_rows + cable.lower.number(),
+        ),
         column: cable.column,
         high: pick(
             cable.line == ends.top_line,
             bottom_rows + n,
-            bottom_rows + cable.upper,
+            bottom_rows + cable.upper.number(),
         ),
         to: part_spot(parts, bottom_rows, cable.upper),
     }
@@ -91,7 +85,7 @@ fn no_course() -> Course
 
 // The course of every cable, by line.
 pub fn courses_of(graph: Graph, columns: Columns, ends: Ends) -> [Course; MOST_CABLES]
-    requires { ⌜ Given graph ⌝ }
+    requires { ⌜ GraphFits graph ⌝ }
     requires { ⌜ ColumnsOf graph (graph .parts) columns ⌝ }
     requires { ⌜ EndsOf (graphIn graph) ends ⌝ }
     ensures { λ r. ⌜ ((i : ℕ) → i < graph .cables → courseIn (getD r i noCourse) ≡ courseOf (graphIn graph) i) ⌝ }
@@ -105,7 +99,12 @@ pub fn courses_of(graph: Graph, columns: Columns, ends: Ends) -> [Course; MOST_C
     let mut courses = [no_course(); MOST_CABLES];
     let mut i = 0;
     while i < m {
-        let cable = cable_of(i, lower[i], upper[i], cables[i]);
+        let cable = Cable {
+            line: i,
+            lower: lower[i],
+            upper: upper[i],
+            column: cables[i],
+        };
         courses[i] = course_of(&parts[..n], ends, cable);
         i += 1;
     }

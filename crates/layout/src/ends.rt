@@ -3,13 +3,14 @@ use crate::Columns;
 use crate::incident::fourth_or;
 use crate::incident::incoming;
 use crate::incident::outgoing;
-use crate::placing::one_if;
+use lists::one_if;
 use order::Graph;
+use words::Rank;
 ghost use mathlib.Core.Path.{_≡_};
 ghost use lib.ListN.{take};
 ghost use Rattle.order.specs.Arrays.{graphIn};
 ghost use Rattle.layout.specs.Columns.{bottomLine, topLine};
-ghost use Rattle.layout.specs.Arrays.{Given};
+ghost use Rattle.layout.specs.Arrays.{GraphFits};
 ghost use Rattle.layout.specs.Placements.{ColumnsOf};
 ghost use Rattle.layout.specs.Courses.{EndsOf};
 
@@ -23,30 +24,25 @@ pub struct Ends {
 
 // 'The fourth leaves s downward': the line at the bottom connection, or the count of lines where s has fewer than four.
 fn bottom_line(graph: Graph) -> usize
-    requires { ⌜ Given graph ⌝ }
+    requires { ⌜ GraphFits graph ⌝ }
     ensures { λ r. ⌜ r ≡ bottomLine (graphIn graph) ⌝ }
 {
-    let lower = graph.lower;
-    let upper = graph.upper;
-    let m = graph.cables;
-    fourth_or(outgoing(&lower[..m], &upper[..m], 0), m)
+    fourth_or(outgoing(graph, Rank::of(0)), graph.cables)
 }
 
 // 'The fourth climbs one row more': the line at the top connection, or the count of lines where t has fewer than four.
 fn top_line(graph: Graph, columns: Columns) -> usize
-    requires { ⌜ Given graph ⌝ }
+    requires { ⌜ GraphFits graph ⌝ }
     ensures { λ r. ⌜ r ≡ topLine (graphIn graph) (take (graph .cables) (columns .cables)) ⌝ }
 {
-    let upper = graph.upper;
     let cables = columns.cables;
-    let m = graph.cables;
-    let last = graph.parts - 1;
-    fourth_or(incoming(&upper[..m], &cables[..m], last as u16), m)
+    let last = Rank::of((graph.parts - 1) as u16);
+    fourth_or(incoming(graph, cables, last), graph.cables)
 }
 
 // 'Let d be 1 if s has four cables and 0 otherwise, and e the same for t': exactly then there is a connection.
 pub fn ends_of(graph: Graph, columns: Columns) -> Ends
-    requires { ⌜ Given graph ⌝ }
+    requires { ⌜ GraphFits graph ⌝ }
     requires { ⌜ ColumnsOf graph (graph .parts) columns ⌝ }
     ensures { λ r. ⌜ EndsOf (graphIn graph) r ⌝ }
 {

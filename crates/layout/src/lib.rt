@@ -10,7 +10,7 @@ mod incident;
 mod placing;
 
 ghost use mathlib.Core.Path.{_≡_};
-ghost use Rattle.layout.specs.Arrays.{Given, Laid};
+ghost use Rattle.layout.specs.Arrays.{GraphFits, IsLayout};
 
 // A cable's course: its two parts' spots, its lower and its upper lane, and its column.
 pub struct Course {
@@ -39,9 +39,9 @@ pub struct Layout {
 
 // The layout of a graph.
 pub fn lay_out(graph: Graph) -> Layout
-    requires { ⌜ Given graph ⌝ }
+    requires { ⌜ GraphFits graph ⌝ }
     ensures { λ r. ⌜ r .graph ≡ graph ⌝ }
-    ensures { λ r. ⌜ Laid r ⌝ }
+    ensures { λ r. ⌜ IsLayout r ⌝ }
 {
     let columns = placing::columns_of(graph);
     let ends = ends::ends_of(graph, columns);

@@ -4,21 +4,22 @@ use crate::incident::Incident;
 use crate::incident::incoming;
 use crate::incident::index_of;
 use crate::incident::outgoing;
-use crate::incident::rank_at;
 use crate::incident::taken;
+use lists::one_if;
 use order::Graph;
+use words::Rank;
 use words::limits::MOST_CABLES;
 use words::limits::MOST_PARTS;
 ghost use mathlib.Core.Path.{_≡_};
 ghost use mathlib.Core.Bool.{cond};
 ghost use mathlib.Core.List.{[], _∷_, _++_, map};
 ghost use Prim.Native.Nat.{ℕ, _+_, _≤_, _<_};
-ghost use lib.ListN.{length, getD, take};
-ghost use Rattle.words.specs.Limits.{mostParts, mostCables};
-ghost use Rattle.lists.specs.Select.{indexOf, oneIf, tabulate};
+ghost use lib.ListN.{getD, take};
+ghost use Rattle.words.specs.Limits.{mostParts};
+ghost use Rattle.lists.specs.Select.{indexOf, tabulate};
 ghost use Rattle.order.specs.Arrays.{graphIn};
 ghost use Rattle.layout.specs.Columns.{newLeft, newRight, moved};
-ghost use Rattle.layout.specs.Arrays.{Given};
+ghost use Rattle.layout.specs.Arrays.{GraphFits};
 ghost use Rattle.layout.specs.Incidents.{linesIn};
 ghost use Rattle.layout.specs.Placements.{ColumnsOf, PlacementOf, PlacedAt, PlacementFits, movedBy, openedBy, cableBy};
 
@@ -44,12 +45,6 @@ fn opens_right(ins: usize, outs: usize) -> bool
     3 <= outs || outs == 2 && ins <= 1
 }
 
-pub fn one_if(b: bool) -> u16
-    ensures { λ r. ⌜ r ≡ oneIf b ⌝ }
-{
-    if b { 1 } else { 0 }
-}
-
 fn placement_of(ins: Incident, outs: Incident, count: u16) -> Placement
     requires { ⌜ (ins .count ≤ 4) × (count < 32768) ⌝ }
     ensures { λ r. ⌜ PlacementOf ins outs count r ⌝ }
@@ -66,18 +61,15 @@ fn placement_of(ins: Incident, outs: Incident, count: u16) -> Placement
 }
 
 // Where rank k stands, by the columns of the ranks below it.
-fn placement_at(graph: Graph, k: u16, columns: Columns) -> Placement
-    requires { ⌜ Given graph ⌝ }
-    requires { ⌜ k < graph .parts ⌝ }
-    requires { ⌜ ColumnsOf graph k columns ⌝ }
-    ensures { λ r. ⌜ PlacedAt (graphIn graph) k r ⌝ }
+fn placement_at(graph: Graph, k: Rank, columns: Columns) -> Placement
+    requires { ⌜ GraphFits graph ⌝ }
+    requires { ⌜ k .0 < graph .parts ⌝ }
+    requires { ⌜ ColumnsOf graph (k .0) columns ⌝ }
+    ensures { λ r. ⌜ PlacedAt (graphIn graph) (k .0) r ⌝ }
 {
-    let lower = graph.lower;
-    let upper = graph.upper;
     let cables = columns.cables;
-    let m = graph.cables;
-    let outs = outgoing(&lower[..m], &upper[..m], k);
-    let ins = incoming(&upper[..m], &cables[..m], k);
+    let outs = outgoing(graph, k);
+    let ins = incoming(graph, cables, k);
     placement_of(ins, outs, columns.count)
 }
 
@@ -121,57 +113,58 @@ fn cable_column(placement: Placement, opens: bool, line: usize, x: u16) -> u16
 
 // The columns of the cables once rank k stands.
 fn cables_after(
-    lower: &[u8],
-    k: u16,
+    graph: Graph,
+    k: Rank,
     placement: Placement,
     cables: [u16; MOST_CABLES],
 ) -> [u16; MOST_CABLES]
+    requires { ⌜ GraphFits graph ⌝ }
     requires { ⌜ PlacementFits placement ⌝ }
-    requires { ⌜ length (now lower) ≤ mostCables ⌝ }
-    requires { ⌜ ((i : ℕ) → i < length (now lower) → getD cables i 0 < 32768) ⌝ }
-    ensures { λ r. ⌜ take (length (now (lower .entry))) r ≡ tabulate (length (now (lower .entry))) (cableBy (now (lower .entry)) k placement cables) ⌝ }
+    requires { ⌜ ((i : ℕ) → i < graph .cables → getD cables i 0 < 32768) ⌝ }
+    ensures { λ r. ⌜ take (graph .cables) r ≡ tabulate (graph .cables) (cableBy (graphIn graph .lowers) (k .0) placement cables) ⌝ }
 {
+    let lower = graph.lower;
+    let m = graph.cables;
+    let rank = k.number();
     let mut next = cables;
     let mut i = 0;
-    while i < lower.len() {
-        next[i] = cable_column(placement, rank_at(lower, i) == k, i, next[i]);
+    while i < m {
+        next[i] = cable_column(placement, lower[i].number() == rank, i, next[i]);
         i += 1;
     }
     next
 }
 
 // The columns of the parts once rank k stands.
-fn parts_after(placement: Placement, k: usize, parts: [u16; MOST_PARTS]) -> [u16; MOST_PARTS]
+fn parts_after(placement: Placement, k: Rank, parts: [u16; MOST_PARTS]) -> [u16; MOST_PARTS]
     requires { ⌜ PlacementFits placement ⌝ }
-    requires { ⌜ k < mostParts ⌝ }
-    requires { ⌜ ((i : ℕ) → i < k → getD parts i 0 < 32768) ⌝ }
-    ensures { λ r. ⌜ take (k + 1) r ≡ map (movedBy placement) (take k parts) ++ (placement .column + placement .left) ∷ [] ⌝ }
+    requires { ⌜ k .0 < mostParts ⌝ }
+    requires { ⌜ ((i : ℕ) → i < k .0 → getD parts i 0 < 32768) ⌝ }
+    ensures { λ r. ⌜ take (k .0 + 1) r ≡ map (movedBy placement) (take (k .0) parts) ++ (placement .column + placement .left) ∷ [] ⌝ }
 {
+    let rank = k.number() as usize;
     let mut next = parts;
     let mut i = 0;
-    while i < k {
+    while i < rank {
         next[i] = moved(placement, next[i]);
         i += 1;
     }
-    next[k] = placement.column + placement.left;
+    next[rank] = placement.column + placement.left;
     next
 }
 
 // The columns once rank k stands, from those before it.
-fn add_rank(graph: Graph, k: usize, columns: Columns) -> Columns
-    requires { ⌜ Given graph ⌝ }
-    requires { ⌜ k < graph .parts ⌝ }
-    requires { ⌜ ColumnsOf graph k columns ⌝ }
-    ensures { λ r. ⌜ ColumnsOf graph (k + 1) r ⌝ }
+fn add_rank(graph: Graph, k: Rank, columns: Columns) -> Columns
+    requires { ⌜ GraphFits graph ⌝ }
+    requires { ⌜ k .0 < graph .parts ⌝ }
+    requires { ⌜ ColumnsOf graph (k .0) columns ⌝ }
+    ensures { λ r. ⌜ ColumnsOf graph (k .0 + 1) r ⌝ }
 {
-    let rank = k as u16;
-    let placement = placement_at(graph, rank, columns);
-    let lower = graph.lower;
-    let m = graph.cables;
+    let placement = placement_at(graph, k, columns);
     let cables = columns.cables;
     let parts = columns.parts;
     Columns {
-        cables: cables_after(&lower[..m], rank, placement, cables),
+        cables: cables_after(graph, k, placement, cables),
         parts: parts_after(placement, k, parts),
         count: placement.last + one_if(placement.outs.count == 4),
     }
@@ -179,18 +172,18 @@ fn add_rank(graph: Graph, k: usize, columns: Columns) -> Columns
 
 // The columns once every rank stands. At the start there is one: 's gets its own column'.
 pub fn columns_of(graph: Graph) -> Columns
-    requires { ⌜ Given graph ⌝ }
+    requires { ⌜ GraphFits graph ⌝ }
     ensures { λ r. ⌜ ColumnsOf graph (graph .parts) r ⌝ }
 {
-    let n = graph.parts;
+    let n = graph.parts as u16;
     let mut columns = Columns {
         cables: [0; MOST_CABLES],
         parts: [0; MOST_PARTS],
         count: 1,
     };
-    let mut k = 0;
+    let mut k = 0u16;
     while k < n {
-        columns = add_rank(graph, k, columns);
+        columns = add_rank(graph, Rank::of(k), columns);
         k += 1;
     }
     columns

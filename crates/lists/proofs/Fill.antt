@@ -46,9 +46,6 @@ module _ {A : Type 0} (f : ℕ → A) (d : A) where
       go j g (yes q) = rw q (getD-set-same l i v d (omega (arith, s .same)) ∙ e)
       go j g (no q) = getD-set-other l i j v d q ∙ s .done j (omega arith)
 
-  pub filled-all : {i : ℕ} {l₀ l : List A} (n : ℕ) → n ≤ i → length l₀ ≡ n → Filled f d i l₀ l → l ≡ tabulate n f
-  filled-all {i} {l₀} {l} n h e s = tabulate-of n f d l (s .same ∙ e) (λ j g. s .done j (omega arith))
-
   -- the first n elements are tabulated
   pub filled-take : {i : ℕ} {l₀ l : List A} (n : ℕ) → n ≤ i → n ≤ length l₀ → Filled f d i l₀ l → take n l ≡ tabulate n f
   filled-take {i} {l₀} {l} n h b s =

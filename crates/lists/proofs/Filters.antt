@@ -42,7 +42,7 @@ module _ {A : Type 0} where
       go true h = omega arith
       go false h = omega arith
 
-pub length-consIf : (b : Bool) (x : ℕ) (l : List ℕ) → length (consIf b x l) ≡ oneIf b + length l
+pub length-consIf : {A : Type 0} (b : Bool) (x : A) (l : List A) → length (consIf b x l) ≡ oneIf b + length l
 length-consIf true x l = omega arith
 length-consIf false x l = omega arith
 

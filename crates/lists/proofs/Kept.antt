@@ -9,7 +9,7 @@ use lib.ListN.{length, getD, take, set, replicate, length-map}
 use lib.Seq.{getD-set-same, getD-set-other}
 
 module _ {A : Type 0} (f : A → ℕ) where
-  map-set : (l : List A) (i : ℕ) (a : A) → map f (set l i a) ≡ set (map f l) i (f a)
+  pub map-set : (l : List A) (i : ℕ) (a : A) → map f (set l i a) ≡ set (map f l) i (f a)
   map-set [] i a = refl
   map-set (x ∷ xs) zero a = refl
   map-set (x ∷ xs) (suc i) a = ap (λ (l : List ℕ). f x ∷ l) (map-set xs i a)
@@ -19,6 +19,10 @@ module _ {A : Type 0} (f : A → ℕ) where
 
   pub map-set-other : (l : List A) (i j : ℕ) (a : A) (d : ℕ) → (j ≡ i → ⊥) → getD (map f (set l i a)) j d ≡ getD (map f l) j d
   map-set-other l i j a d n = rw (map-set l i a) (getD-set-other (map f l) i j (f a) d n)
+
+  pub map-replicate : (n : ℕ) (a : A) → map f (replicate n a) ≡ replicate n (f a)
+  map-replicate zero a = refl
+  map-replicate (suc n) a = ap (λ (l : List ℕ). f a ∷ l) (map-replicate n a)
 
 pub mem-below : {x : ℕ} (n : ℕ) (l : List ℕ) → ((i : ℕ) → getD l i 0 < n) → List·Memᴰ x l → x < n
 mem-below n [] h m = absurd (List·Memᴰ·not-nil m)

@@ -2,9 +2,9 @@
 use Prim.Native.Nat.{ℕ, zero, suc, _+_, _<_, _≤_}
 use native.Mathlib.Omega.{arith}
 use mathlib.Core.Path.{_≡_, refl, sym, ap, subst, _∙_}
-use mathlib.Core.Logic.{_⊎_, inl, inr, ⊎-elim}
+use mathlib.Core.Logic.{_⊎_, ⊎-elim}
 use mathlib.Core.Bool.{Bool, true, false, not}
-use mathlib.Core.List.{List, [], _∷_, _++_, List·Memᴰ, List·Memᴰ·head, List·Memᴰ·tail, List·Memᴰ·not-nil, List·Memᴰ·cases-cons, List·Memᴰ·append-cases, Memᴰ·cast, Memᴰ·append-left, Memᴰ·append-right}
+use mathlib.Core.List.{List, [], _∷_, _++_, List·Memᴰ, List·Memᴰ·head, List·Memᴰ·tail, List·Memᴰ·not-nil, List·Memᴰ·append-cases, Memᴰ·append-left, Memᴰ·append-right}
 use lib.ListN.{length, getD, length-append, List·getD-append}
 use lib.Seq.{getD-at}
 use lib.Dec.{eqb}
@@ -13,6 +13,7 @@ use Rattle.lists.specs.Select.{filter, consIf, without, indexOf, lastly}
 use Rattle.lists.proofs.Bools.{not-e}
 use Rattle.lists.proofs.Select.{getD-mem, filter-e, filter-i, Distinct, distinct-filter, indexOf-getD}
 use Rattle.lists.proofs.Sort.{Rising, rising-places}
+use Rattle.lists.proofs.Sets.{length-without, rising-without}
 
 -- The elements
 
@@ -74,10 +75,6 @@ alone : (x : ℕ) (l : List ℕ) → Distinct l → List·Memᴰ x l → filter 
 alone x l u m =
     only x (filter (eqb x) l) (distinct-filter (eqb x) l u) (λ y n. eqb-true x y (filter-e (eqb x) l n .1)) (filter-i (eqb x) l m (eq-eqb x x refl))
 
-length-without : (x : ℕ) (l : List ℕ) → Distinct l → List·Memᴰ x l → suc (length (without x l)) ≡ length l
-unfolding without
-length-without x l u m = omega (arith, length-parted (eqb x) l, ap length (alone x l u m))
-
 -- it is last
 pub lastly-last : (x : ℕ) (l : List ℕ) → Distinct l → List·Memᴰ x l → suc (indexOf x (lastly x l)) ≡ length l
 unfolding lastly
@@ -85,19 +82,10 @@ lastly-last x l u m =
     let k : ℕ = length (without x l) in
     let there : getD (lastly x l) k 0 ≡ x = ap (λ (b : List ℕ). getD (without x l ++ b) k 0) (alone x l u m) ∙ getD-at (without x l) x [] 0 k refl in
     let place : indexOf (getD (lastly x l) k 0) (lastly x l) ≡ k =
-    indexOf-getD (lastly x l) k 0 (distinct-lastly x l u) (omega (arith, length-lastly x l, length-without x l u m)) in
-    omega (arith, sym (ap (λ (y : ℕ). indexOf y (lastly x l)) there) ∙ place, length-without x l u m)
+    indexOf-getD (lastly x l) k 0 (distinct-lastly x l u) (omega (arith, length-lastly x l, length-without l u m)) in
+    omega (arith, sym (ap (λ (y : ℕ). indexOf y (lastly x l)) there) ∙ place, length-without l u m)
 
 -- The others
-
-rising-filter : (key : ℕ → ℕ) (p : ℕ → Bool) (l : List ℕ) → Rising key l → Rising key (filter p l)
-unfolding filter
-rising-filter key p [] r = tt
-rising-filter key p (x ∷ xs) r = go (p x) (rising-filter key p xs (r .1))
-  where
-    go : (b : Bool) → Rising key (filter p xs) → Rising key (consIf b x (filter p xs))
-    go true v = (λ y m. r .0 y (filter-e p xs m .0), v)
-    go false v = v
 
 -- those before the one that is moved rise as they did
 pub lastly-rises :
@@ -108,7 +96,7 @@ lastly-rises key x l r a b h g =
     let rest : List ℕ = filter (λ y. not (eqb x y)) l in
     let e : getD (rest ++ filter (eqb x) l) a 0 ≡ getD rest a 0 = List·getD-append rest (filter (eqb x) l) 0 a (omega arith) in
     let f : getD (rest ++ filter (eqb x) l) b 0 ≡ getD rest b 0 = List·getD-append rest (filter (eqb x) l) 0 b g in
-    omega (arith, ap key e, ap key f, rising-places key rest (rising-filter key (λ y. not (eqb x y)) l r) a b 0 h g)
+    omega (arith, ap key e, ap key f, rising-places key rest (rising-without key x l r) a b 0 h g)
 
 -- at most one is moved, and none where x is not in the list
 pub without-most : (x : ℕ) (l : List ℕ) → Distinct l → length l ≤ suc (length (without x l))

@@ -16,7 +16,6 @@ pub mod Maps
 pub mod Fill
 pub mod Stores
 pub mod Storing
-pub mod Pairs
 pub mod Filters
 pub mod Kept
 pub mod Agree
@@ -24,3 +23,4 @@ pub mod Lastly
 pub mod Same
 pub mod Slices
 pub mod Seeking
+pub mod Computing

@@ -2,4 +2,3 @@
 pub mod Search
 pub mod Select
 pub mod Stores
-pub mod Pairs

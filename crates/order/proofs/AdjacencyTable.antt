@@ -12,11 +12,13 @@ use borrow.Author.Tests.{eq-eqb, ne-eqb}
 use Rattle.words.specs.Limits.{adjacencyPlaces, mostParts, neighbourPlaces}
 use Rattle.lists.specs.Select.{consIf}
 use Rattle.lists.proofs.Slices.{slice-set-before, slice-set-behind, replicate-below}
-use Rattle.station.specs.Station.{stationOf, cableOf, noCable}
+use Rattle.station.specs.Station.{Station, stationOf, noCable}
+use Rattle.station.specs.Code.{Wired}
 use Rattle.station.proofs.Cables.{cables-count}
 use Rattle.order.specs.Reach.{neighbours, Joined}
-use Rattle.order.specs.Tables.{Drawable, neighboursIn, TableFits, Adjacent, Appendable, Appended}
-use Rattle.order.proofs.Joins.{joined-within}
+use Rattle.order.specs.Tables.{neighboursIn, TableFits, Adjacent, Appendable, Appended}
+use Rattle.order.proofs.Joins.{within, joined-within}
+use Rattle.order.proofs.Neighbours.{neighbours-few}
 
 -- A part's neighbours by place
 
@@ -34,9 +36,8 @@ pub entry-fits : {table : List ℕ} → TableFits table → (i : ℕ) → getD t
 entry-fits F i = omega (arith, F .inside i)
 
 -- a part's neighbours are parts
-pub joined-inside : {list : List ℕ} → Drawable list → (p : ℕ) {q : ℕ} → Joined (stationOf list .cables) p q → q < stationOf list .parts
-unfolding cableOf
-joined-inside {list} D p j = joined-within (stationOf list .cables) p (λ i h. (D .one i, D .other i)) j
+pub joined-inside : {st : Station} → Wired st → (p : ℕ) {q : ℕ} → Joined (st .cables) p q → q < st .parts
+joined-inside {st} W p j = joined-within (st .cables) p (within W) j
 
 -- One more neighbour
 
@@ -110,7 +111,7 @@ pub record Ahead (list table : List ℕ) (to-come : ℕ → List ℕ) : Type 0 w
   pub formed : TableFits table
   pub by-line : (p : ℕ) → neighboursIn table p ++ to-come p ≡ neighbours (stationOf list .cables) p
 
-module _ (list : List ℕ) (D : Drawable list) where
+module _ (list : List ℕ) (W : Wired (stationOf list)) where
   pub ahead-none : Ahead list (replicate adjacencyPlaces 0) (neighbours (stationOf list .cables))
   unfolding neighboursIn
   ahead-none =
@@ -129,7 +130,7 @@ module _ (list : List ℕ) (D : Drawable list) where
     ahead-room : getD table (neighbourPlaces + a) 0 < 4
     ahead-room =
         let whole : neighboursIn table a ++ (b ∷ later a) ≡ neighbours (stationOf list .cables) a = rw own-next at (A .by-line a) in
-        let len : length (neighboursIn table a ++ (b ∷ later a)) ≤ 4 = rw whole (D .few a) in
+        let len : length (neighboursIn table a ++ (b ∷ later a)) ≤ 4 = rw whole (neighbours-few W a) in
         omega (arith, length-append (neighboursIn table a) (b ∷ later a), neighbours-length (A .formed) h)
 
     ahead-next : {table′ : List ℕ} → Appended table table′ a b → Ahead list table′ later
@@ -141,13 +142,13 @@ module _ (list : List ℕ) (D : Drawable list) where
 
 -- The table of the first lines: those of m cables before a line.
 pub record TableUpTo (list : List ℕ) (m : ℕ) (table : List ℕ) (line : ℕ) : Type 0 where
-  pub drawable : Drawable list
+  pub wired : Wired (stationOf list)
   pub cables : m ≡ length (stationOf list .cables)
   pub place : line ≤ m
   pub ahead : Ahead list table (neighbours (drop line (stationOf list .cables)))
 
-pub table-start : {list : List ℕ} {m : ℕ} → Drawable list → m ≡ length (stationOf list .cables) → TableUpTo list m (replicate adjacencyPlaces 0) 0
-table-start {list} D e = record { drawable = D; cables = e; place = omega arith; ahead = ahead-none list D }
+pub table-start : {list : List ℕ} {m : ℕ} → Wired (stationOf list) → m ≡ length (stationOf list .cables) → TableUpTo list m (replicate adjacencyPlaces 0) 0
+table-start {list} W e = record { wired = W; cables = e; place = omega arith; ahead = ahead-none list W }
 
 pub line-word : {list table : List ℕ} {m line : ℕ} → TableUpTo list m table line → line < m → 2 + line < length list
 line-word {list} T h = omega (arith, T .cables, cables-count list)
@@ -166,10 +167,10 @@ module _ {list table : List ℕ} {m line a b : ℕ} (T : TableUpTo list m table 
   at-line p = rw (drop-cons (stationOf list .cables) line noCable (omega (arith, T .cables)), ea, eb, add-one) refl
 
   one-below : a < mostParts
-  one-below = omega (arith, ea, T .drawable .one line, T .drawable .most)
+  one-below = omega (arith, ea, T .wired .one line, T .wired .most)
 
   other-below : b < mostParts
-  other-below = omega (arith, eb, T .drawable .other line, T .drawable .most)
+  other-below = omega (arith, eb, T .wired .other line, T .wired .most)
 
   pub first-fits : Appendable table a b
   first-fits =
@@ -177,12 +178,12 @@ module _ {list table : List ℕ} {m line a b : ℕ} (T : TableUpTo list m table 
         formed = T .ahead .formed;
         part = one-below;
         neighbour = other-below;
-        few = ahead-room list (T .drawable) table _ between a b one-below (T .ahead) at-line;
+        few = ahead-room list (T .wired) table _ between a b one-below (T .ahead) at-line;
       }
 
   module _ {table′ : List ℕ} (J : Appended table table′ a b) where
     first-done : Ahead list table′ between
-    first-done = ahead-next list (T .drawable) table _ between a b one-below (T .ahead) at-line J
+    first-done = ahead-next list (T .wired) table _ between a b one-below (T .ahead) at-line J
 
     pub second-fits : Appendable table′ b a
     unfolding between
@@ -191,24 +192,24 @@ module _ {list table : List ℕ} {m line a b : ℕ} (T : TableUpTo list m table 
           formed = first-done .formed;
           part = other-below;
           neighbour = one-below;
-          few = ahead-room list (T .drawable) table′ _ later b a other-below first-done (λ p. refl);
+          few = ahead-room list (T .wired) table′ _ later b a other-below first-done (λ p. refl);
         }
 
     pub table-next : {table″ : List ℕ} → Appended table′ table″ b a → TableUpTo list m table″ (line + 1)
     unfolding between later
     table-next K =
         record {
-          drawable = T .drawable;
+          wired = T .wired;
           cables = T .cables;
           place = omega arith;
-          ahead = ahead-next list (T .drawable) table′ _ later b a other-below first-done (λ p. refl) K;
+          ahead = ahead-next list (T .wired) table′ _ later b a other-below first-done (λ p. refl) K;
         }
 
 pub table-end : {list table : List ℕ} {m line : ℕ} → TableUpTo list m table line → m ≤ line → Adjacent list table
 unfolding neighbours
 table-end {list} {table} {m} {line} T h =
     record {
-      drawable = T .drawable;
+      wired = T .wired;
       formed = T .ahead .formed;
       by-line = λ p. sym (append-nil _) ∙ rw (drop-of-length-le (stationOf list .cables) {i = line} (omega (arith, T .cables))) at (T .ahead .by-line p);
     }

@@ -5,8 +5,8 @@ use mathlib.Core.Path.{_≡_, sym, _∙_}
 use mathlib.Core.Logic.{_⊎_, inl, inr}
 use Rattle.lists.specs.declared.Found.the-variants.{Nothing}
 use Rattle.station.specs.Station.{Station}
+use Rattle.station.specs.Code.{Wired}
 use Rattle.order.specs.Reach.{Path, check10}
-use Rattle.order.proofs.Joins.{Within}
 use Rattle.order.proofs.Checks.{Off, check10-nothing}
 
 -- The station is biconnected once a cable joins s and t: for every part v, every other part has a path without v to s or to t. Where v is one of them, the path
@@ -16,17 +16,14 @@ Bipolar st =
     (v p : ℕ) → v < st .parts → p < st .parts → (p ≡ v → ⊥)
     → Path (st .cables) (Off (st .parts) v) (st .source) p ⊎ Path (st .cables) (Off (st .parts) v) (st .analyser) p
 
--- a station with an order: its ends are two parts, its cables join parts, and it is bipolar
+-- a station with an order: it is wired as checks 1 to 8 say, and bipolar
 pub record Orderable (st : Station) : Type 0 where
-  pub source : st .source < st .parts
-  pub analyser : st .analyser < st .parts
-  pub apart : st .source ≡ st .analyser → ⊥
-  pub within : Within (st .parts) (st .cables)
+  pub wired : Wired st
   pub bipolar : Bipolar st
 
-pub bipolar-of-check10 : (st : Station) → st .source < st .parts → st .analyser < st .parts → (st .source ≡ st .analyser → ⊥) → check10 st ≡ Nothing → Bipolar st
-bipolar-of-check10 st s t n e v p l m h = go (ℕ-discrete (st .source) v)
+pub bipolar-of-check10 : (st : Station) → Wired st → check10 st ≡ Nothing → Bipolar st
+bipolar-of-check10 st W e v p l m h = go (ℕ-discrete (st .source) v)
   where
     go : Dec (st .source ≡ v) → Path (st .cables) (Off (st .parts) v) (st .source) p ⊎ Path (st .cables) (Off (st .parts) v) (st .analyser) p
-    go (yes q) = inr (check10-nothing st .0 e v l p (st .analyser) (m, h) (t, λ r. n (q ∙ sym r)))
-    go (no q) = inl (check10-nothing st .0 e v l p (st .source) (m, h) (s, q))
+    go (yes q) = inr (check10-nothing st .0 e v l p (st .analyser) (m, h) (W .analyser, λ r. W .apart (q ∙ sym r)))
+    go (no q) = inl (check10-nothing st .0 e v l p (st .source) (m, h) (W .source, q))

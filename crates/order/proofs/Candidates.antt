@@ -167,7 +167,7 @@ module _ (st : Station) (unranked : List ℕ) (R : Rest st unranked) where
         to (inr r) = made (leaves w c (st .analyser) (b .0) r (λ q. a .1 (path-wider (st .cables) in-rest q)))
 
     first-front : (x : ℕ) → List·Memᴰ x unranked → (x ≡ st .analyser → ⊥) → (w : ℕ) × Front st unranked (st .analyser) w
-    first-front x m n = to (H .bipolar (st .analyser) x (H .analyser) (R .inside x m) n)
+    first-front x m n = to (H .bipolar (st .analyser) x (H .wired .analyser) (R .inside x m) n)
       where
         to : Path (st .cables) (Off (st .parts) (st .analyser)) (st .source) x ⊎ Path (st .cables) (Off (st .parts) (st .analyser)) (st .analyser) x
             → (w : ℕ) × Front st unranked (st .analyser) w
@@ -238,7 +238,7 @@ rest-start st H =
       rising = rising-without (λ x. x) (st .source) (range (st .parts)) (rising-range (st .parts));
       distinct = distinct-without (st .source) (range (st .parts)) (distinct-range (st .parts));
       inside = λ x m. range-e (st .parts) (without-e (st .source) (range (st .parts)) m .0);
-      analyser = without-i (st .source) (range (st .parts)) (range-i (st .analyser) (st .parts) (H .analyser)) (λ e. H .apart (sym e));
+      analyser = without-i (st .source) (range (st .parts)) (range-i (st .analyser) (st .parts) (H .wired .analyser)) (λ e. H .wired .apart (sym e));
       source = λ m. without-e (st .source) (range (st .parts)) m .1 refl;
       reaches = λ x m. to x (without-e (st .source) (range (st .parts)) m);
     }
@@ -255,7 +255,7 @@ rest-start st H =
     on x (inr r) = path-wider (st .cables) in-set r
 
     to : (x : ℕ) → List·Memᴰ x (range (st .parts)) × (x ≡ st .source → ⊥) → Path (st .cables) (Among set) (st .analyser) x
-    to x h = on x (H .bipolar (st .source) x (H .source) (range-e (st .parts) (h .0)) (h .1))
+    to x h = on x (H .bipolar (st .source) x (H .wired .source) (range-e (st .parts) (h .0)) (h .1))
 
 pub rest-step : (st : Station) (unranked : List ℕ) (w : ℕ) → Rest st unranked → Candidate (st .cables) (st .analyser) unranked w → Rest st (without w unranked)
 rest-step st unranked w R c =

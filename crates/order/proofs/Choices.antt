@@ -129,7 +129,7 @@ module _ {list table : List ℕ} {flags : List Bool} {witness : List ℕ} {w : �
   unfolding bordering
   neighbours-border =
       ap (any (λ q. not (getD flags q false))) (A .by-line w)
-      ∙ any-same _ _ (neighbours (stationOf list .cables) w) (λ q m. ap not (sym (member-flagged (stationOf list .parts) flags q (joined-inside (A .drawable) w m))))
+      ∙ any-same _ _ (neighbours (stationOf list .cables) w) (λ q m. ap not (sym (member-flagged (stationOf list .parts) flags q (joined-inside (A .wired) w m))))
 
   known-cuts : getD flags w false ≡ true → not (eqb w (stationOf list .analyser)) ≡ true → knownSeparator list flags witness w ≡ true → connected (stationOf list .cables) rest ≡ false
   known-cuts fw ne k = go (connected (stationOf list .cables) rest) refl
@@ -137,7 +137,7 @@ module _ {list table : List ℕ} {flags : List Bool} {witness : List ℕ} {w : �
       go : (b : Bool) → connected (stationOf list .cables) rest ≡ b → connected (stationOf list .cables) rest ≡ false
       go false e = e
       go true e =
-          absurd (witness-holds W (A .drawable) h fw (eqb-false w (stationOf list .analyser) (not-true (eqb w (stationOf list .analyser)) ne)) k
+          absurd (witness-holds W (A .wired) h fw (eqb-false w (stationOf list .analyser) (not-true (eqb w (stationOf list .analyser)) ne)) k
           (connected-iff (stationOf list .cables) (without w (setOf list flags)) .0 e))
 
   pub eligible-not : not r ≡ true → false ≡ eligible list flags w

@@ -13,8 +13,9 @@ use Rattle.lists.specs.Select.{range, member, without}
 use Rattle.lists.proofs.Filters.{front, seek-same}
 use Rattle.lists.proofs.Seeking.{Seeking, seeking-next, seeking-at, seeking-end}
 use Rattle.station.specs.Station.{Cable, stationOf}
+use Rattle.station.specs.Code.{Wired}
 use Rattle.order.specs.Reach.{unreached, null, connected, check9, check10}
-use Rattle.order.specs.Tables.{Drawable, setOf, CutOff}
+use Rattle.order.specs.Tables.{setOf, CutOff}
 use Rattle.order.proofs.Flags.{member-flagged, flagged-all}
 
 pub front-mem : {x : ℕ} (l : List ℕ) → front l ≡ At x → List·Memᴰ x l
@@ -54,31 +55,31 @@ cuts list v = not (connected (stationOf list .cables) (without v (range (station
 
 -- Checks 9 and 10 from flags that are all set
 
-pub check9-found : {list : List ℕ} {n : ℕ} {r : Found} (left : List Bool) → Drawable list → n ≡ stationOf list .parts
+pub check9-found : (list : List ℕ) {n : ℕ} {r : Found} (left : List Bool) → Wired (stationOf list) → n ≡ stationOf list .parts
     → setOf list left ≡ unreached (stationOf list .cables) (setOf list (replicate mostParts true)) 0
     → r ≡ seek (λ p. getD left p false) 0 n → r ≡ check9 (stationOf list)
 unfolding check9
-check9-found {list} left D e u f =
+check9-found list left W e u f =
     let from : setOf list left ≡ unreached (stationOf list .cables) (range (stationOf list .parts)) 0 =
-    u ∙ ap (λ (l : List ℕ). unreached (stationOf list .cables) l 0) (flagged-all (stationOf list .parts) (D .most)) in
+    u ∙ ap (λ (l : List ℕ). unreached (stationOf list .cables) l 0) (flagged-all (stationOf list .parts) (W .most)) in
     f
     ∙ ap (λ (k : ℕ). seek (λ p. getD left p false) 0 k) e
     ∙ seek-same _ _ 0 (stationOf list .parts) (λ j a b. sym (member-flagged (stationOf list .parts) left j (omega arith)) ∙ ap (member j) from)
 
-cut-test : {list : List ℕ} {found : Found} (v : ℕ) → Drawable list → CutOff list (without v (setOf list (replicate mostParts true))) found → isFound found ≡ cuts list v
-cut-test {list} v D C = C .test ∙ ap (λ (l : List ℕ). not (connected (stationOf list .cables) (without v l))) (flagged-all (stationOf list .parts) (D .most))
+cut-test : {list : List ℕ} {found : Found} (v : ℕ) → Wired (stationOf list) → CutOff list (without v (setOf list (replicate mostParts true))) found → isFound found ≡ cuts list v
+cut-test {list} v W C = C .test ∙ ap (λ (l : List ℕ). not (connected (stationOf list .cables) (without v l))) (flagged-all (stationOf list .parts) (W .most))
 
 module _ (list : List ℕ) {n v : ℕ} (S : Seeking (cuts list) n v) where
-  pub check10-next : {found : Found} → Drawable list → v < n → CutOff list (without v (setOf list (replicate mostParts true))) found → found ≡ Nothing → Seeking (cuts list) n (v + 1)
-  check10-next D h C e = seeking-next S h (sym (cut-test v D C) ∙ ap isFound e)
+  pub check10-next : {found : Found} → Wired (stationOf list) → v < n → CutOff list (without v (setOf list (replicate mostParts true))) found → found ≡ Nothing → Seeking (cuts list) n (v + 1)
+  check10-next W h C e = seeking-next S h (sym (cut-test v W C) ∙ ap isFound e)
 
   module _ (c : n ≡ stationOf list .parts) where
     to-check10 : {r : Found} → r ≡ seek (cuts list) 0 n → r ≡ check10 (stationOf list)
     unfolding check10
     to-check10 e = rw c at e
 
-    pub check10-at : {found : Found} {q : ℕ} → Drawable list → v < n → CutOff list (without v (setOf list (replicate mostParts true))) found → found ≡ At q → At v ≡ check10 (stationOf list)
-    check10-at D h C e = to-check10 (seeking-at S h (sym (cut-test v D C) ∙ ap isFound e))
+    pub check10-at : {found : Found} {q : ℕ} → Wired (stationOf list) → v < n → CutOff list (without v (setOf list (replicate mostParts true))) found → found ≡ At q → At v ≡ check10 (stationOf list)
+    check10-at W h C e = to-check10 (seeking-at S h (sym (cut-test v W C) ∙ ap isFound e))
 
     pub check10-none : n ≤ v → Nothing ≡ check10 (stationOf list)
     check10-none h = to-check10 (seeking-end S h)

@@ -12,6 +12,7 @@ use Rattle.station.specs.Station.{Cable, Station, noCable}
 use Rattle.order.specs.Order.{order, rankIn}
 use Rattle.order.specs.Graph.{lower, upper}
 use Rattle.order.specs.Ends.{lowerPart, upperPart, graphOf}
+use Rattle.order.proofs.Joins.{within}
 use Rattle.order.proofs.Bipolar.{Orderable}
 use Rattle.order.proofs.Ranks.{lower-is, upper-is, part-of-rank}
 
@@ -52,7 +53,7 @@ module _ (l : List ℕ) (c : Cable) where
 
 module _ (st : Station) (H : Orderable st) (i : ℕ) (h : i < length (st .cables)) where
   inside : (lowerPart (order st) (getD (st .cables) i noCable) < st .parts) × (upperPart (order st) (getD (st .cables) i noCable) < st .parts)
-  inside = let w = H .within i h in parts-inside (order st) (getD (st .cables) i noCable) (st .parts) (w .0) (w .1)
+  inside = let w = within (H .wired) i h in parts-inside (order st) (getD (st .cables) i noCable) (st .parts) (w .0) (w .1)
 
   pub lower-part : getD (order st) (lower (graphOf st) i) 0 ≡ lowerPart (order st) (getD (st .cables) i noCable)
   lower-part =

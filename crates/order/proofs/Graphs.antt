@@ -12,6 +12,9 @@ use Rattle.lists.proofs.Sums.{count-none, count-all, count-key}
 use Rattle.order.specs.Graph.{StGraph, size, lower, upper, linesAt, Ranked}
 
 module _ (g : StGraph) (R : Ranked g) where
+  pub lower-inside : (i : ℕ) → i < size g → lower g i < g .parts
+  lower-inside i h = omega (arith, R .rises i h, R .inside i h)
+
   -- the lines whose rank, as the function gives it, is less than k
   below : (ℕ → ℕ) → ℕ → ℕ
   below rank k = count (λ i. ltb (rank i) k) (range (size g))

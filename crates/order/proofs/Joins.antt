@@ -9,7 +9,8 @@ use lib.ListN.{length, getD}
 use lib.Dec.{eqb}
 use borrow.Author.Tests.{eqb-true, eq-eqb}
 use Rattle.lists.specs.Select.{consIf}
-use Rattle.station.specs.Station.{Cable, noCable}
+use Rattle.station.specs.Station.{Cable, Station, noCable}
+use Rattle.station.specs.Code.{Wired}
 use Rattle.order.specs.Reach.{neighbours, Joined}
 
 -- the cable of a line
@@ -74,6 +75,9 @@ joined-sym cs {u} {v} j = let l : Lined cs u v = joined-line cs u v j in line-jo
 -- every cable has its two ends among the parts below n
 abbrev pub Within : ℕ → List Cable → Type 0
 Within n cs = (i : ℕ) → i < length cs → (cableAt cs i .one < n) × (cableAt cs i .other < n)
+
+pub within : {st : Station} → Wired st → Within (st .parts) (st .cables)
+within W i l = (W .one i, W .other i)
 
 pub joined-within : {n : ℕ} (cs : List Cable) (u : ℕ) {v : ℕ} → Within n cs → Joined cs u v → v < n
 joined-within {n} cs u {v} w j = let l : Lined cs u v = joined-line cs u v j in go (w (l .0) (l .1)) (l .2)

@@ -1,4 +1,5 @@
 -- Laws of paths, of checks 9 and 10 and of the order. Assumes nothing.
+pub mod Computing
 pub mod Worked
 pub mod Joins
 pub mod Paths
@@ -24,5 +25,5 @@ pub mod Witnesses
 pub mod Choices
 pub mod PartsByRank
 pub mod Rankings
-pub mod Drawables
+pub mod Neighbours
 pub mod LineRanks

@@ -3,14 +3,14 @@ use Prim.Native.Nat.{ℕ, _+_, _<_, _≤_, min, max}
 use native.Mathlib.Omega.{arith}
 use mathlib.Core.Path.{_≡_, refl, sym, ap, ap₂, _∙_}
 use mathlib.Core.List.{List}
-use lib.ListN.{length, getD, take, replicate, length-replicate, List·getD-map}
+use lib.ListN.{length, getD, take, set, replicate, length-map, length-replicate, List·getD-map}
 use lib.Seq.{ext-getD, getD-take, length-take-le}
 use Rattle.words.specs.Limits.{mostParts, mostCables}
-use Rattle.lists.proofs.Fill.{Filled, filled-none}
+use Rattle.lists.proofs.Fill.{Filled, filled-none, filled-more}
+use Rattle.lists.proofs.Kept.{map-set}
 use Rattle.words.specs.declared.Rank.{Rank}
-use Rattle.station.specs.Station.{Cable, stationOf, noCable}
+use Rattle.station.specs.Station.{stationOf, noCable}
 use Rattle.station.specs.Checks.{Clear}
-use Rattle.station.proofs.Cables.{cables-count}
 use Rattle.order.specs.declared.Ranking.{Ranking}
 use Rattle.order.specs.Checks.{allChecks}
 use Rattle.order.specs.Order.{order, rankIn}
@@ -18,36 +18,33 @@ use Rattle.order.specs.Graph.{StGraph, lower, upper}
 use Rattle.order.specs.Ends.{graphOf}
 use Rattle.order.specs.Ranking.{rankNumbers, RankingOf}
 use Rattle.order.proofs.Ranks.{graph-parts, graph-size, lower-is, upper-is}
-use Rattle.order.proofs.Passed.{list-ranked, lines-most}
-use Rattle.order.proofs.Drawables.{drawable10}
+use Rattle.order.proofs.Passed.{list-wired, list-ranked, lines-most}
 
 -- the rank that stands at a place
 abbrev pub rankAt : List Rank → ℕ → ℕ
 rankAt ranks p = getD ranks p (record { 0 = 0 }) .0
 
-rank-number : (ranks : List Rank) (p : ℕ) → rankAt ranks p ≡ getD (rankNumbers ranks) p 0
+-- it is the number at the place
+pub rank-number : (ranks : List Rank) (p : ℕ) → rankAt ranks p ≡ getD (rankNumbers ranks) p 0
 unfolding rankNumbers
 rank-number ranks p = sym (List·getD-map (λ (k : Rank). k .0) ranks p (record { 0 = 0 }))
 
 module _ (list : List ℕ) (pass : Clear allChecks list) where
-  pub line-word : (i : ℕ) → i < length (stationOf list .cables) → 2 + i < length list
-  line-word i h = omega (arith, cables-count list)
-
   pub one-below : (i : ℕ) {p : ℕ} → p ≡ getD (stationOf list .cables) i noCable .one → p < mostParts
-  one-below i e = omega (arith, e, drawable10 list pass .one i, drawable10 list pass .most)
+  one-below i e = omega (arith, e, list-wired list pass .one i, list-wired list pass .most)
 
   pub other-below : (i : ℕ) {p : ℕ} → p ≡ getD (stationOf list .cables) i noCable .other → p < mostParts
-  other-below i e = omega (arith, e, drawable10 list pass .other i, drawable10 list pass .most)
+  other-below i e = omega (arith, e, list-wired list pass .other i, list-wired list pass .most)
 
   module _ {r : Ranking} (R : RankingOf (stationOf list) r) (i : ℕ) {p q : ℕ} (h : i < length (stationOf list .cables)) (ep : p ≡ getD (stationOf list .cables) i noCable .one) (eq : q ≡ getD (stationOf list .cables) i noCable .other) where
     one-rank : rankAt (r .rank) p ≡ rankIn (order (stationOf list)) (getD (stationOf list .cables) i noCable .one)
     one-rank =
-        rank-number (r .rank) p ∙ R .rank p (omega (arith, ep, drawable10 list pass .one i))
+        rank-number (r .rank) p ∙ R .rank p (omega (arith, ep, list-wired list pass .one i))
         ∙ ap (rankIn (order (stationOf list))) ep
 
     other-rank : rankAt (r .rank) q ≡ rankIn (order (stationOf list)) (getD (stationOf list .cables) i noCable .other)
     other-rank =
-        rank-number (r .rank) q ∙ R .rank q (omega (arith, eq, drawable10 list pass .other i))
+        rank-number (r .rank) q ∙ R .rank q (omega (arith, eq, list-wired list pass .other i))
         ∙ ap (rankIn (order (stationOf list))) eq
 
     pub lower-line : {k : ℕ} → k ≡ min (rankAt (r .rank) p) (rankAt (r .rank) q) → k ≡ lower (graphOf (stationOf list)) i
@@ -56,17 +53,24 @@ module _ (list : List ℕ) (pass : Clear allChecks list) where
     pub upper-line : {k : ℕ} → k ≡ max (rankAt (r .rank) p) (rankAt (r .rank) q) → k ≡ upper (graphOf (stationOf list)) i
     upper-line e = e ∙ ap₂ max one-rank other-rank ∙ sym (upper-is (stationOf list) i h)
 
--- an array as it is made
+-- the numbers of an array as it is made
 pub blank : List ℕ
-blank = replicate mostCables 0
+blank = rankNumbers (replicate mostCables (record { 0 = 0 }))
 
 pub length-blank : length blank ≡ mostCables
-unfolding blank
-length-blank = length-replicate {A = ℕ} mostCables 0
+unfolding blank rankNumbers
+length-blank =
+    length-map (replicate mostCables (record { 0 = 0 })) (λ (k : Rank). k .0) ∙ length-replicate {A = Rank} mostCables (record { 0 = 0 })
 
-pub filled-blank : (f : ℕ → ℕ) → Filled f 0 0 blank (replicate mostCables 0)
+pub filled-blank : (f : ℕ → ℕ) → Filled f 0 0 blank (rankNumbers (replicate mostCables (record { 0 = 0 })))
 unfolding blank
-filled-blank f = filled-none f 0 (replicate mostCables 0)
+filled-blank f = filled-none f 0 (rankNumbers (replicate mostCables (record { 0 = 0 })))
+
+-- a rank that is stored is its number among the numbers
+pub filled-rank : (f : ℕ → ℕ) {i : ℕ} (l : List Rank) (k : Rank) → i < length blank → k .0 ≡ f i → Filled f 0 i blank (rankNumbers l)
+    → Filled f 0 (i + 1) blank (rankNumbers (set l i k))
+unfolding rankNumbers
+filled-rank f {i} l k h e F = rw (map-set (λ (r : Rank). r .0) l i k) (filled-more f 0 (k .0) h e F)
 
 -- as far as a list goes, an array that is filled from it is the list
 filled-list : (xs : List ℕ) {i m : ℕ} {l : List ℕ} → length xs ≡ m → m ≤ i → m ≤ mostCables → Filled (λ j. getD xs j 0) 0 i blank l → take m l ≡ xs

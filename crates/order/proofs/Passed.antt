@@ -38,14 +38,7 @@ module _ (list : List ℕ) (pass : Clear allChecks list) where
   list-wired = wired list (clear-8 list pass)
 
   pub list-orderable : Orderable (stationOf list)
-  list-orderable =
-      record {
-        source = list-wired .source;
-        analyser = list-wired .analyser;
-        apart = list-wired .apart;
-        within = λ i l. (list-wired .one i, list-wired .other i);
-        bipolar = bipolar-of-check10 (stationOf list) (list-wired .source) (list-wired .analyser) (list-wired .apart) (clear-10 list pass);
-      }
+  list-orderable = record { wired = list-wired; bipolar = bipolar-of-check10 (stationOf list) list-wired (clear-10 list pass) }
 
   -- 'the result is the st-ordering from s to t'
   pub list-ordering : StOrdering (stationOf list) (order (stationOf list))
@@ -57,7 +50,7 @@ module _ (list : List ℕ) (pass : Clear allChecks list) where
 
   -- what the layout asks for
   pub list-ranked : Ranked (graphOf (stationOf list))
-  list-ranked = order-ranked (stationOf list) list-orderable list-wired
+  list-ranked = order-ranked (stationOf list) list-orderable
 
   pub lines-most : length (stationOf list .cables) ≤ mostCables
   lines-most = cables-most (stationOf list) list-wired

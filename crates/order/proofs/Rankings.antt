@@ -2,12 +2,12 @@
 use Prim.Native.Nat.{ℕ, suc, _+_, _-_, _<_, _≤_}
 use native.Mathlib.Omega.{arith}
 use native.Mathlib.Decide.{ℕ-discrete}
-use mathlib.Core.Path.{_≡_, refl, sym, ap, _∙_, subst}
+use mathlib.Core.Path.{_≡_, refl, ap, _∙_, subst}
 use mathlib.Core.Logic.{_⊎_, inl, inr}
 use mathlib.Core.Bool.{cond}
 use mathlib.Core.List.{List, _∷_}
-use lib.ListN.{length, getD, take, drop, set, replicate, length-map, length-set, length-drop, length-replicate}
-use lib.Seq.{length-take-le, drop-cons, getD-take, ext-getD}
+use lib.ListN.{length, getD, take, drop, set, replicate, length-set, length-drop, length-replicate}
+use lib.Seq.{length-take-le, drop-cons, getD-take}
 use lib.Dec.{eqb}
 use borrow.Author.Tests.{eq-eqb, ne-eqb}
 use Rattle.words.specs.Limits.{mostParts}
@@ -15,12 +15,11 @@ use Rattle.lists.specs.Select.{indexOf}
 use Rattle.lists.proofs.Kept.{map-set-same, map-set-other}
 use Rattle.words.specs.declared.Part.{Part}
 use Rattle.words.specs.declared.Rank.{Rank}
-use Rattle.order.specs.declared.Ranking.{Ranking}
 use Rattle.station.specs.Station.{stationOf}
 use Rattle.station.specs.Checks.{Clear}
 use Rattle.order.specs.Order.{order, rankIn}
 use Rattle.order.specs.Checks.{allChecks}
-use Rattle.order.specs.Ranking.{partNumbers, rankNumbers, BothWays, RankingOf}
+use Rattle.order.specs.Ranking.{partNumbers, rankNumbers, RanksOf, RankingOf}
 use Rattle.order.proofs.Ranks.{rank-below}
 use Rattle.order.proofs.Passed.{list-orderable, list-ordering}
 
@@ -32,35 +31,29 @@ rank-cons p x xs = go (ℕ-discrete p x)
     go (yes e) = inl (e, rw (eq-eqb p x e) refl)
     go (no n) = inr (n, rw (ne-eqb p x n) refl)
 
--- The arrays while they are filled: right from rank k on.
-pub record Filling (parts : List ℕ) (n : ℕ) (rank : List Rank) (part : List Part) (k : ℕ) : Type 0 where
-  pub ranks : length rank ≡ mostParts
-  pub places : length part ≡ mostParts
+-- Rank by part while it is filled: right from rank k on.
+pub record Filling (parts : List ℕ) (n : ℕ) (rank : List Rank) (k : ℕ) : Type 0 where
+  pub places : length rank ≡ mostParts
   pub down : k ≤ n
-  pub by-rank : (j : ℕ) → k ≤ j → j < n → getD (partNumbers part) j 0 ≡ getD parts j 0
   pub by-part : (p : ℕ) → rankIn (drop k (take n parts)) p < length (drop k (take n parts)) → getD (rankNumbers rank) p 0 ≡ k + rankIn (drop k (take n parts)) p
 
 module _ (parts : List ℕ) (n : ℕ) (h : n ≤ mostParts) (len : length parts ≡ mostParts) (below : (k : ℕ) → getD parts k 0 < mostParts) where
-  pub filling-start : (rank : Rank) (part : Part) → Filling parts n (replicate mostParts rank) (replicate mostParts part) n
-  filling-start rank part =
+  pub filling-start : (rank : Rank) → Filling parts n (replicate mostParts rank) n
+  filling-start rank =
       record {
-        ranks = length-replicate mostParts rank;
-        places = length-replicate mostParts part;
+        places = length-replicate mostParts rank;
         down = omega arith;
-        by-rank = λ j a b. absurd (omega arith);
         by-part = λ p l. absurd (omega (arith, length-drop n (take n parts), length-take-le n parts (omega arith)));
       }
 
-  module _ {rank : List Rank} {part : List Part} {k : ℕ} (F : Filling parts n rank part k) where
-    pub filling-next : {r : Rank} {p : Part} → 0 < k → r .0 ≡ k - 1 → p .0 ≡ getD parts (k - 1) 0 → Filling parts n (set rank (getD parts (k - 1) 0) r) (set part (k - 1) p) (k - 1)
-    unfolding partNumbers rankNumbers
+  module _ {rank : List Rank} {k : ℕ} (F : Filling parts n rank k) where
+    pub filling-next : {r : Rank} {p : ℕ} → 0 < k → r .0 ≡ k - 1 → p ≡ getD parts (k - 1) 0 → Filling parts n (set rank p r) (k - 1)
+    unfolding rankNumbers
     filling-next {r} {p} g er ep =
         record {
-          ranks = length-set rank _ r ∙ F .ranks;
-          places = length-set part _ p ∙ F .places;
+          places = length-set rank _ r ∙ F .places;
           down = omega (arith, F .down);
-          by-rank = λ j a b. at-rank j a b (ℕ-discrete j (k - 1));
-          by-part = λ q l. rw dropped (at-part q (rw dropped at l) (rank-cons q x xs));
+          by-part = λ q l. rw (dropped, ep) (at-part q (rw dropped at l) (rank-cons q x xs));
         }
       where
         x : ℕ
@@ -75,44 +68,29 @@ module _ (parts : List ℕ) (n : ℕ) (h : n ≤ mostParts) (len : length parts 
             drop-cons (take n parts) (k - 1) 0 (omega (arith, F .down, length-take-le n parts (omega arith)))
             ∙ rw (getD-take n parts (k - 1) 0 (omega (arith, F .down)), e) refl
 
-        at-rank : (j : ℕ) → k - 1 ≤ j → j < n → Dec (j ≡ k - 1) → getD (partNumbers (set part (k - 1) p)) j 0 ≡ getD parts j 0
-        at-rank j a b (yes e) = rw e (map-set-same (λ (q : Part). q .0) part (k - 1) p 0 (omega (arith, F .places, F .down)) ∙ ep)
-        at-rank j a b (no m) = map-set-other (λ (q : Part). q .0) part (k - 1) j p 0 m ∙ F .by-rank j (omega arith) b
-
         at-part : (q : ℕ) → rankIn (x ∷ xs) q < length (x ∷ xs) → ((q ≡ x) × (rankIn (x ∷ xs) q ≡ 0)) ⊎ ((q ≡ x → ⊥) × (rankIn (x ∷ xs) q ≡ rankIn xs q + 1))
             → getD (rankNumbers (set rank x r)) q 0 ≡ k - 1 + rankIn (x ∷ xs) q
-        at-part q l (inl f) = rw (f .0) (map-set-same (λ (q : Rank). q .0) rank x r 0 (omega (arith, F .ranks, below (k - 1))) ∙ er ∙ omega (arith, f .1, ap (rankIn (x ∷ xs)) (f .0)))
+        at-part q l (inl f) = rw (f .0) (map-set-same (λ (q : Rank). q .0) rank x r 0 (omega (arith, F .places, below (k - 1))) ∙ er ∙ omega (arith, f .1, ap (rankIn (x ∷ xs)) (f .0)))
         at-part q l (inr f) = map-set-other (λ (y : Rank). y .0) rank x q r 0 (f .0) ∙ F .by-part q (omega (arith, f .1)) ∙ omega (arith, f .1)
 
-    pub filling-end : k ≤ 0 → BothWays (take n parts) (record { rank = rank; part = part })
-    unfolding partNumbers
-    filling-end g = record { part = whole; rank = λ p l. (rw e at (F .by-part p)) l ∙ omega arith }
+    pub filling-end : k ≤ 0 → RanksOf (take n parts) rank
+    filling-end g p l = (rw e at (F .by-part p)) l ∙ omega arith
       where
         e : k ≡ 0
         e = omega arith
 
-        count : length (take n parts) ≡ n
-        count = length-take-le n parts (omega arith)
-
-        long : length (take (length (take n parts)) (partNumbers part)) ≡ length (take n parts)
-        long = length-take-le (length (take n parts)) (partNumbers part) (omega (arith, count, length-map part (λ (q : Part). q .0), F .places))
-
-        whole : take (length (take n parts)) (partNumbers part) ≡ take n parts
-        whole =
-            ext-getD 0 (take (length (take n parts)) (partNumbers part)) (take n parts) long
-            (λ i l. getD-take (length (take n parts)) (partNumbers part) i 0 (omega (arith, long)) ∙ F .by-rank i (omega (arith, e)) (omega (arith, count, long)) ∙ sym (getD-take n parts i 0 (omega (arith, count, long))))
-
 -- of a list that passes checks 1 to 10, whose order has every part
-pub ranking-done : (list : List ℕ) → Clear allChecks list → {n : ℕ} (parts : List ℕ) {r : Ranking} → n ≡ stationOf list .parts
-    → take (stationOf list .parts) parts ≡ order (stationOf list) → BothWays (take n parts) r → RankingOf (stationOf list) r
-ranking-done list pass {n} parts {r} e o both =
+pub ranking-done : (list : List ℕ) → Clear allChecks list → {n : ℕ} {rank : List Rank} {part : List Part} → n ≡ stationOf list .parts
+    → take (stationOf list .parts) (partNumbers part) ≡ order (stationOf list) → RanksOf (take n (partNumbers part)) rank
+    → RankingOf (stationOf list) (record { rank = rank; part = part })
+ranking-done list pass {n} {rank} {part} e o ranks =
     record {
-      part = ap (λ (k : ℕ). take k (partNumbers (r .part))) (sym count) ∙ B .part;
-      rank = λ p h. B .rank p (omega (arith, count, rank-below (stationOf list) (list-orderable list pass) p h));
+      part = o;
+      rank = λ p h. B p (omega (arith, count, rank-below (stationOf list) (list-orderable list pass) p h));
     }
   where
-    B : BothWays (order (stationOf list)) r
-    B = subst (λ (l : List ℕ). BothWays l r) (ap (λ (k : ℕ). take k parts) e ∙ o) both
+    B : RanksOf (order (stationOf list)) rank
+    B = subst (λ (l : List ℕ). RanksOf l rank) (ap (λ (k : ℕ). take k (partNumbers part)) e ∙ o) ranks
 
     count : length (order (stationOf list)) ≡ stationOf list .parts
     count = list-ordering list pass .all

@@ -14,8 +14,9 @@ use Rattle.lists.proofs.Filters.{front}
 use Rattle.lists.proofs.Seek.{seek-found}
 use Rattle.lists.proofs.Sets.{without-e}
 use Rattle.station.specs.Station.{stationOf}
+use Rattle.station.specs.Code.{Wired}
 use Rattle.order.specs.Reach.{Path, unreached, null, connected}
-use Rattle.order.specs.Tables.{Drawable, setOf, CutOff}
+use Rattle.order.specs.Tables.{setOf, CutOff}
 use Rattle.order.proofs.Paths.{path-end, path-on, path-back}
 use Rattle.order.proofs.Reach.{Among, reached, unreached-iff}
 use Rattle.order.proofs.Flags.{flagged-e, flagged-i, without-flagged, front-flagged}
@@ -29,12 +30,12 @@ at-one e = cc
 
 -- a part that was found is one
 
-module _ {list : List ℕ} {n p : ℕ} {r : Found} (test : ℕ → Bool) (D : Drawable list) (c : n ≡ stationOf list .parts) (s : r ≡ seek test 0 n) (e : r ≡ At p) where
+module _ (list : List ℕ) {n p : ℕ} {r : Found} (test : ℕ → Bool) (W : Wired (stationOf list)) (c : n ≡ stationOf list .parts) (s : r ≡ seek test 0 n) (e : r ≡ At p) where
   pub found-inside : p < stationOf list .parts
   found-inside = omega (arith, c, seek-found test 0 n (sym s ∙ e) .below)
 
   pub found-fits : p < 2 ^ 16
-  found-fits = omega (arith, found-inside, D .most)
+  found-fits = omega (arith, found-inside, W .most)
 
 -- The three answers of a search for a part that is cut off: what it found is what the set, and what the walk from there leaves, start with
 
@@ -59,9 +60,9 @@ module _ (list : List ℕ) (flags : List Bool) {n : ℕ} {r : Found} (c : n ≡ 
       at-t b l = sym (ap (λ (x : ℕ). getD left x false) ea) ∙ l
 
       -- t is left: the walk's first part has no path to it
-      pub cut-start : Drawable list → getD left a false ≡ true → CutOff list (setOf list flags) (At p)
-      cut-start D l =
-          let mt : List·Memᴰ (stationOf list .analyser) (setOf list left) = flagged-i (stationOf list .parts) left (stationOf list .analyser) (D .analyser) (at-t true l) in
+      pub cut-start : Wired (stationOf list) → getD left a false ≡ true → CutOff list (setOf list flags) (At p)
+      cut-start W l =
+          let mt : List·Memᴰ (stationOf list .analyser) (setOf list left) = flagged-i (stationOf list .parts) left (stationOf list .analyser) (W .analyser) (at-t true l) in
           record {
             test = ap not (sym (from ∙ null-mem (setOf list left) mt));
             inside = λ q a. subst (λ (x : ℕ). List·Memᴰ x (setOf list flags)) (at-one a) (front-mem (setOf list flags) (front-flagged flags c s e));
@@ -99,5 +100,5 @@ module _ (list : List ℕ) (flags : List Bool) {n : ℕ} {r : Found} (c : n ≡ 
 pub cut-without : {list : List ℕ} {found : Found} (flags : List Bool) (v : ℕ) → CutOff list (setOf list (set flags v false)) found → CutOff list (without v (setOf list flags)) found
 cut-without {list} {found} flags v C = subst (λ (l : List ℕ). CutOff list l found) (sym (without-flagged (stationOf list .parts) flags v)) C
 
-pub cut-fits : {list : List ℕ} {found : Found} {q : ℕ} (flags : List Bool) (v : ℕ) → Drawable list → CutOff list (without v (setOf list flags)) found → found ≡ At q → q < 2 ^ 16
-cut-fits {list} {q = q} flags v D C e = omega (arith, flagged-e _ flags (without-e v (setOf list flags) (C .inside q e) .0) .0, D .most)
+pub cut-fits : {list : List ℕ} {found : Found} {q : ℕ} (flags : List Bool) (v : ℕ) → Wired (stationOf list) → CutOff list (without v (setOf list flags)) found → found ≡ At q → q < 2 ^ 16
+cut-fits {list} {q = q} flags v W C e = omega (arith, flagged-e _ flags (without-e v (setOf list flags) (C .inside q e) .0) .0, W .most)

@@ -14,7 +14,7 @@ use Rattle.station.specs.Station.{Station}
 use Rattle.order.specs.Reach.{Joined}
 use Rattle.order.specs.Order.{extend, order}
 use Rattle.order.specs.StOrder.{StOrdering, Before, Smallest}
-use Rattle.order.proofs.Joins.{joined-within}
+use Rattle.order.proofs.Joins.{within, joined-within}
 use Rattle.order.proofs.Bipolar.{Orderable}
 use Rattle.order.proofs.Candidates.{Candidate, Rest, rest-start, rest-step}
 use Rattle.order.proofs.Completion.{Completes, ended, ranked, completes-i, completes-e, completes-distinct, completes-length, completes-candidate, completes-last, completes-before, completes-after, chosen, chosen-least, extend-last, extend-completes}
@@ -26,7 +26,7 @@ module _ (st : Station) (H : Orderable st) where
 
   pub length-others : suc (length others) ≡ st .parts
   length-others =
-      length-without (range (st .parts)) (distinct-range (st .parts)) (range-i (st .source) (st .parts) (H .source)) ∙ length-range (st .parts)
+      length-without (range (st .parts)) (distinct-range (st .parts)) (range-i (st .source) (st .parts) (H .wired .source)) ∙ length-range (st .parts)
 
   pub others-e : {x : ℕ} → List·Memᴰ x others → (x < st .parts) × (x ≡ st .source → ⊥)
   others-e {x} m =
@@ -45,12 +45,12 @@ module _ (st : Station) (H : Orderable st) where
     all-distinct = (λ m. others-e (completes-e c m) .1 refl, completes-distinct c)
 
     all-inside : (k : ℕ) → k < st .parts → getD (st .source ∷ r) k 0 < st .parts
-    all-inside zero h = H .source
+    all-inside zero h = H .wired .source
     all-inside (suc k) h = others-e (completes-e c (getD-mem r k 0 (omega (arith, all-length)))) .0
 
     all-last : (k : ℕ) → suc k ≡ st .parts → getD (st .source ∷ r) k 0 ≡ st .analyser
     all-last zero e =
-        let m : List·Memᴰ (st .analyser) others = others-i (H .analyser) (λ q. H .apart (sym q)) in
+        let m : List·Memᴰ (st .analyser) others = others-i (H .wired .analyser) (λ q. H .wired .apart (sym q)) in
         absurd (omega (arith, all-length, length-mem (completes-i c m)))
     all-last (suc k) e = completes-last k c (omega (arith, all-length))
 
@@ -61,7 +61,7 @@ module _ (st : Station) (H : Orderable st) where
         at : (q : ℕ) → Joined (st .cables) (getD r k 0) q → (List·Memᴰ q others → ⊥) ⊎ ((j : ℕ) × (j < k) × (getD r j 0 ≡ q)) → Dec (q ≡ st .source)
             → (j : ℕ) × (j < suc k) × Joined (st .cables) (getD r k 0) (getD (st .source ∷ r) j 0)
         at q i (inl o) (yes e) = (0, omega arith, Memᴰ·cast (sym e) i)
-        at q i (inl o) (no n) = absurd (o (others-i (joined-within (st .cables) (getD r k 0) (H .within) i) n))
+        at q i (inl o) (no n) = absurd (o (others-i (joined-within (st .cables) (getD r k 0) (within (H .wired)) i) n))
         at q i (inr f) d = (suc (f .0), omega (arith, f .1), Memᴰ·cast (f .2) i)
 
         go : (q : ℕ) × Joined (st .cables) (getD r k 0) q × ((List·Memᴰ q others → ⊥) ⊎ ((j : ℕ) × (j < k) × (getD r j 0 ≡ q)))
@@ -235,7 +235,7 @@ module _ (st : Station) (H : Orderable st) where
   -- s is first in every one.
   tail-completes : (r : List ℕ) → StOrdering st r → Completes (st .cables) (st .analyser) (others st H) (drop 1 r)
   tail-completes r O =
-      suffix-completes r O (length (others st H) - 1) 1 (others st H) (omega (arith, L, H .source, H .analyser, H .apart)) (omega (arith, L)) (omega arith)
+      suffix-completes r O (length (others st H) - 1) 1 (others st H) (omega (arith, L, H .wired .source, H .wired .analyser, H .wired .apart)) (omega (arith, L)) (omega arith)
       (distinct-without (st .source) (range (st .parts)) (distinct-range (st .parts))) rest none
     where
       L : suc (length (others st H)) ≡ st .parts
@@ -260,4 +260,4 @@ module _ (st : Station) (H : Orderable st) where
           (same-or-before (st .source) (extend-least (st .parts - 1) (rest-start st H) (omega (arith, length-others st H)) (tail-completes r O)))
         where
           split : r ≡ st .source ∷ drop 1 r
-          split = drop-cons r 0 0 (omega (arith, O .all, H .source)) ∙ ap (λ (y : ℕ). y ∷ drop 1 r) (O .first)
+          split = drop-cons r 0 0 (omega (arith, O .all, H .wired .source)) ∙ ap (λ (y : ℕ). y ∷ drop 1 r) (O .first)

@@ -1,16 +1,18 @@
 -- The walk of the code, step by step: the flags and the stack always stand for a walk with the same end. Assumes nothing.
-use Prim.Native.Nat.{ℕ, _+_, _*_, _-_, _<_, _≤_}
+use Prim.Native.Nat.{ℕ, _+_, _-_, _<_, _≤_}
 use native.Mathlib.Omega.{arith}
 use mathlib.Core.Path.{_≡_, refl, sym, ap, _∙_, subst}
 use mathlib.Core.Logic.{_⊎_, inl, inr}
 use mathlib.Core.Bool.{Bool, true, false, cond}
 use mathlib.Core.List.{List, [], _∷_, _++_, List·Memᴰ, List·Memᴰ·head, List·Memᴰ·tail, List·Memᴰ·append-cases, List·Memᴰ·eq-of-singleton}
 use lib.ListN.{length, getD, set, length-set}
-use Rattle.words.specs.Limits.{stackPlaces}
+use Rattle.words.specs.Limits.{neighbourPlaces, stackPlaces}
 use Rattle.lists.specs.Select.{member, without}
 use Rattle.station.specs.Station.{stationOf}
+use Rattle.station.specs.Code.{Wired}
 use Rattle.order.specs.Reach.{neighbours, endsAt, unreached}
-use Rattle.order.specs.Tables.{Drawable, Adjacent, flagged, fromTop, Steppable, Stepped}
+use Rattle.order.specs.Tables.{Adjacent, flagged, fromTop, Steppable, Stepped}
+use Rattle.order.proofs.Neighbours.{neighbours-few}
 use Rattle.order.proofs.AdjacencyTable.{joined-inside}
 use Rattle.order.proofs.Flags.{member-flagged, distinct-flagged, length-flagged, without-flagged}
 use Rattle.order.proofs.Walks.{ends-few, walked, walked-none, walked-start, walked-next, steps-next, length-fromTop, fromTop-one, fromTop-pop}
@@ -18,18 +20,18 @@ use Rattle.order.proofs.Walks.{ends-few, walked, walked-none, walked-st
 -- The walk from part p among the flags of set, with left and a stack of height top still to go.
 pub record Walking (list : List ℕ) (set : List Bool) (p : ℕ) (left : List Bool) (stack : List ℕ) (top : ℕ) : Type 0 where
   pub places : length stack ≡ stackPlaces
-  pub room : endsAt (stationOf list .cables) (flagged (stationOf list .parts) left) + top ≤ 1025
+  pub room : endsAt (stationOf list .cables) (flagged (stationOf list .parts) left) + top ≤ neighbourPlaces + 1
   pub inside : (q : ℕ) → List·Memᴰ q (fromTop stack top) → q < stationOf list .parts
   pub same : walked (stationOf list .cables) (fromTop stack top) (flagged (stationOf list .parts) left) ≡ unreached (stationOf list .cables) (flagged (stationOf list .parts) set) p
 
 module _ {list : List ℕ} where
-  pub walking-start : {p : ℕ} (flags : List Bool) (stack : List ℕ) → Drawable list → p < stationOf list .parts → length stack ≡ stackPlaces
+  pub walking-start : {p : ℕ} (flags : List Bool) (stack : List ℕ) → Wired (stationOf list) → p < stationOf list .parts → length stack ≡ stackPlaces
       → Walking list flags p flags (set stack 0 p) 1
-  walking-start {p} flags stack D h s =
+  walking-start {p} flags stack W h s =
       let top : fromTop (set stack 0 p) 1 ≡ p ∷ [] = fromTop-one stack p (omega arith) in
       record {
         places = length-set stack 0 p ∙ s;
-        room = omega (arith, ends-few (stationOf list .cables) (D .few) (flagged (stationOf list .parts) flags), length-flagged (stationOf list .parts) flags, D .most);
+        room = omega (arith, ends-few (stationOf list .cables) (neighbours-few W) (flagged (stationOf list .parts) flags), length-flagged (stationOf list .parts) flags, W .most);
         inside = λ q m. omega (arith, List·Memᴰ·eq-of-singleton (subst (List·Memᴰ q) top m));
         same = ap (λ (l : List ℕ). walked (stationOf list .cables) l (flagged (stationOf list .parts) flags)) top ∙ sym (walked-start (stationOf list .cables) (flagged (stationOf list .parts) flags) p);
       }
@@ -45,7 +47,7 @@ module _ {list : List ℕ} where
           places = W .places;
           some = h;
           room = omega (arith, W .room);
-          part = omega (arith, walking-top h, A .drawable .most);
+          part = omega (arith, walking-top h, A .wired .most);
         }
 
     pub walking-end : top ≤ 0 → flagged (stationOf list .parts) left ≡ unreached (stationOf list .cables) (flagged (stationOf list .parts) set₀) p
@@ -96,7 +98,7 @@ module _ {list : List ℕ} where
       inside-next x m = go (member q among) (subst (List·Memᴰ x) todo-next m)
         where
           own : List·Memᴰ x (neighbours (stationOf list .cables) q) ⊎ List·Memᴰ x todo → x < stationOf list .parts
-          own (inl k) = joined-inside (A .drawable) q k
+          own (inl k) = joined-inside (A .wired) q k
           own (inr k) = under x k
 
           go : (b : Bool) → List·Memᴰ x (cond b (neighbours (stationOf list .cables) q ++ todo) todo) → x < stationOf list .parts

@@ -15,13 +15,14 @@ use Rattle.lists.proofs.Bools.{and-e}
 use Rattle.lists.proofs.Sets.{without-e, without-i}
 use Rattle.lists.proofs.Slices.{replicate-below}
 use Rattle.station.specs.Station.{stationOf}
-use Rattle.order.specs.Tables.{Drawable, setOf, CutOff, Separates, Witnesses, knownSeparator}
+use Rattle.station.specs.Code.{Wired}
+use Rattle.order.specs.Tables.{setOf, CutOff, Separates, Witnesses, knownSeparator}
 use Rattle.order.proofs.Paths.{path-wider}
-use Rattle.order.proofs.Reach.{Among, AllJoined}
+use Rattle.order.proofs.Reach.{AllJoined}
 use Rattle.order.proofs.Flags.{cleared, flagged-e, flagged-i, without-flagged}
 
 -- At the start s stands beside every part, and is ranked.
-pub witness-start : {list : List ℕ} → Drawable list → (s : ℕ) → s < stationOf list .parts → Witnesses list (set (replicate mostParts true) s false) (replicate mostParts s)
+pub witness-start : {list : List ℕ} → Wired (stationOf list) → (s : ℕ) → s < stationOf list .parts → Witnesses list (set (replicate mostParts true) s false) (replicate mostParts s)
 witness-start {list} D s h =
     record { places = length-replicate mostParts s; inside = λ w. replicate-below mostParts s (stationOf list .parts) w h; separated = λ w m n. absurd (gone w m n) }
   where
@@ -35,14 +36,14 @@ witness-start {list} D s h =
 
 module _ {list : List ℕ} {flags : List Bool} {witness : List ℕ} (W : Witnesses list flags witness) where
   -- a witness as an index
-  pub witness-below : Drawable list → (w : ℕ) → getD witness w 0 < mostParts
+  pub witness-below : Wired (stationOf list) → (w : ℕ) → getD witness w 0 < mostParts
   witness-below D w = omega (arith, W .inside w, D .most)
 
-  pub witness-fits : Drawable list → (w : ℕ) → getD witness w 0 < 2 ^ 64
+  pub witness-fits : Wired (stationOf list) → (w : ℕ) → getD witness w 0 < 2 ^ 64
   witness-fits D w = omega (arith, witness-below D w)
 
   -- a part that w cuts off becomes its witness
-  pub witness-found : {w q : ℕ} {found : Found} → Drawable list → w < stationOf list .parts → CutOff list (without w (setOf list flags)) found → found ≡ At q
+  pub witness-found : {w q : ℕ} {found : Found} → Wired (stationOf list) → w < stationOf list .parts → CutOff list (without w (setOf list flags)) found → found ≡ At q
       → Witnesses list flags (set witness w q)
   witness-found {w} {q} {found} D h C e =
       record {
@@ -83,7 +84,7 @@ module _ {list : List ℕ} {flags : List Bool} {witness : List ℕ} (W : Witness
           }
 
   -- an unranked part that is known to separate its witness from t: without it the others are not joined to each other
-  pub witness-holds : {w : ℕ} → Drawable list → w < stationOf list .parts → getD flags w false ≡ true → (w ≡ stationOf list .analyser → ⊥)
+  pub witness-holds : {w : ℕ} → Wired (stationOf list) → w < stationOf list .parts → getD flags w false ≡ true → (w ≡ stationOf list .analyser → ⊥)
       → knownSeparator list flags witness w ≡ true → AllJoined (stationOf list .cables) (without w (setOf list flags)) → ⊥
   unfolding knownSeparator
   witness-holds {w} D h fw n k all =

@@ -1,14 +1,12 @@
 -- Checks 9 and 10 and the order of document 01's examples and stations B and C at this stage. Assumes nothing.
-use Prim.Native.Nat.{ℕ, suc, _+_, _-_}
+use Prim.Native.Nat.{ℕ, _-_}
 use mathlib.Core.Path.{_≡_, refl}
 use mathlib.Core.List.{List, [], _∷_}
-use Rattle.lists.specs.declared.Found.{Found}
 use Rattle.lists.specs.declared.Found.the-variants.{At, Nothing}
-use Rattle.lists.specs.Search.{seek}
-use Rattle.lists.specs.Select.{upFrom, range, member, any, filter, without}
 use Rattle.station.specs.Station.{Cable, Station}
-use Rattle.order.specs.Reach.{neighbours, endsAt, walk, unreached, null, connected, check9, check10}
-use Rattle.order.specs.Order.{candidate, firstOr, extend, order}
+use Rattle.order.specs.Reach.{check9, check10}
+use Rattle.order.specs.Order.{order}
+use Rattle.order.proofs.Computing.{order-computing}
 
 abbrev join : ℕ → ℕ → Cable
 join a b = record { one = a; other = b }
@@ -35,7 +33,7 @@ record Worked : Type 0 where
   c-order : order stationC ≡ 0 ∷ 3 ∷ 1 ∷ 2 ∷ []
 
 worked : Worked
-unfolding seek upFrom range member any filter without neighbours endsAt walk unreached null connected check9 check10 candidate firstOr extend order
+unfolding order-computing
 worked = record {
   refusal-9 = refl;
   refusal-10 = refl;

@@ -16,10 +16,9 @@ partNumbers parts = map (λ (p : Part). p .0) parts
 unfoldable pub rankNumbers : List Rank → List ℕ
 rankNumbers ranks = map (λ (k : Rank). k .0) ranks
 
--- the first places of part by rank are the given parts, and each of those has its rank
-pub record BothWays (parts : List ℕ) (r : Ranking) : Type 0 where
-  pub part : take (length parts) (partNumbers (r .part)) ≡ parts
-  pub rank : (p : ℕ) → rankIn parts p < length parts → getD (rankNumbers (r .rank)) p 0 ≡ rankIn parts p
+-- the rank of each of the given parts
+abbrev pub RanksOf : List ℕ → List Rank → Type 0
+RanksOf parts ranks = (p : ℕ) → rankIn parts p < length parts → getD (rankNumbers ranks) p 0 ≡ rankIn parts p
 
 -- 'rank by part, part by rank': of the order of a station
 pub record RankingOf (st : Station) (r : Ranking) : Type 0 where

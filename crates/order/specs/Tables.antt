@@ -10,20 +10,10 @@ use Rattle.lists.specs.declared.Found.{Found}
 use Rattle.lists.specs.declared.Found.the-variants.{At}
 use Rattle.lists.specs.Search.{isFound}
 use Rattle.lists.specs.Select.{range, any, filter, without}
-use Rattle.station.specs.Station.{stationOf, noCable}
+use Rattle.station.specs.Station.{stationOf}
+use Rattle.station.specs.Code.{Wired}
 use Rattle.order.specs.Reach.{neighbours, Path, connected}
 use Rattle.order.specs.Order.{candidate, firstOr}
-
--- What checks 1 to 8 leave, as far as this crate needs it.
-pub record Drawable (list : List ℕ) : Type 0 where
-  pub words : 2 ≤ length list
-  pub least : 3 ≤ stationOf list .parts
-  pub most : stationOf list .parts ≤ mostParts
-  pub source : stationOf list .source < stationOf list .parts
-  pub analyser : stationOf list .analyser < stationOf list .parts
-  pub one : (i : ℕ) → getD (stationOf list .cables) i noCable .one < stationOf list .parts
-  pub other : (i : ℕ) → getD (stationOf list .cables) i noCable .other < stationOf list .parts
-  pub few : (p : ℕ) → length (neighbours (stationOf list .cables) p) ≤ 4
 
 -- The adjacency table
 
@@ -39,7 +29,7 @@ pub record TableFits (table : List ℕ) : Type 0 where
 
 -- the table of a list's cables: each part's neighbours by line
 pub record Adjacent (list table : List ℕ) : Type 0 where
-  pub drawable : Drawable list
+  pub wired : Wired (stationOf list)
   pub formed : TableFits table
   pub by-line : (p : ℕ) → neighboursIn table p ≡ neighbours (stationOf list .cables) p
 

@@ -3,7 +3,9 @@ use station::fields;
 use words::Part;
 use words::limits::ADJACENCY_PLACES;
 use words::limits::NEIGHBOUR_PLACES;
-ghost use Rattle.order.specs.Tables.{Drawable, Adjacent, Appendable, Appended};
+ghost use Rattle.station.specs.Station.{stationOf};
+ghost use Rattle.station.specs.Code.{Wired};
+ghost use Rattle.order.specs.Tables.{Adjacent, Appendable, Appended};
 
 // Part p's neighbours by line, at most four, from place 4 p on, and how many they are at place DEGREES + p.
 pub type Table = [u16; ADJACENCY_PLACES];
@@ -23,7 +25,7 @@ fn join(table: &mut Table, p: Part, q: Part)
 
 // The table of a list's cables.
 pub fn table_of(list: &[u32]) -> Table
-    requires { ⌜ Drawable (now list) ⌝ }
+    requires { ⌜ Wired (stationOf (now list)) ⌝ }
     ensures { λ r. ⌜ Adjacent (now (list .entry)) r ⌝ }
 {
     let m = fields::cable_count(list);

@@ -6,11 +6,11 @@ ghost use Prim.Native.Nat.{min, max};
 pub fn lower_of(a: Rank, b: Rank) -> Rank
     ensures { λ r. ⌜ r .0 ≡ min (a .0) (b .0) ⌝ }
 {
-    if a.0 < b.0 { a } else { b }
+    if a.number() < b.number() { a } else { b }
 }
 
 pub fn upper_of(a: Rank, b: Rank) -> Rank
     ensures { λ r. ⌜ r .0 ≡ max (a .0) (b .0) ⌝ }
 {
-    if a.0 < b.0 { b } else { a }
+    if a.number() < b.number() { b } else { a }
 }

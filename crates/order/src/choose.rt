@@ -1,6 +1,5 @@
 // The part that gets each next rank (document 01, 'The order of parts'). Where a part is no candidate because it separates another one from t, that one is
 // its witness: fewer unranked parts make no new path, so that it needs no other walk until its witness is ranked.
-use crate::Ranking;
 use crate::adjacency::DEGREES;
 use crate::adjacency::Table;
 use crate::walk;
@@ -11,12 +10,13 @@ use words::Rank;
 use words::limits::MOST_PARTS;
 ghost use mathlib.Core.Path.{_≡_};
 ghost use Prim.Native.Nat.{ℕ, _<_, _≤_};
-ghost use lib.ListN.{length, getD, take};
+ghost use lib.ListN.{getD, take};
 ghost use Rattle.words.specs.Limits.{mostParts};
 ghost use Rattle.station.specs.Station.{stationOf};
+ghost use Rattle.station.specs.Code.{Wired};
 ghost use Rattle.order.specs.Order.{order};
-ghost use Rattle.order.specs.Ranking.{BothWays};
-ghost use Rattle.order.specs.Tables.{Drawable, TableFits, Adjacent, Witnesses, bordering, knownSeparator, mayBeNext, eligible, chosenPart};
+ghost use Rattle.order.specs.Ranking.{partNumbers, RanksOf};
+ghost use Rattle.order.specs.Tables.{TableFits, Adjacent, Witnesses, bordering, knownSeparator, mayBeNext, eligible, chosenPart};
 
 // Part w is joined to a ranked part.
 fn borders(table: &Table, unranked: &[bool; MOST_PARTS], w: Part) -> bool
@@ -44,7 +44,7 @@ fn is_known_separator(
     witness: &[u16; MOST_PARTS],
     w: Part,
 ) -> bool
-    requires { ⌜ Drawable (now list) ⌝ }
+    requires { ⌜ Wired (stationOf (now list)) ⌝ }
     requires { ⌜ Witnesses (now list) (now unranked) (now witness) ⌝ }
     requires { ⌜ w .0 < mostParts ⌝ }
     ensures { λ r. ⌜ r ≡ knownSeparator (now (list .entry)) (now (unranked .entry)) (now (witness .entry)) (w .0) ⌝ }
@@ -126,41 +126,39 @@ fn choose(
     fields::analyser(list)
 }
 
-// The parts by rank, in the first n places.
-pub fn order_parts(list: &[u32], table: &Table) -> [u16; MOST_PARTS]
+// Part by rank, in the first n places.
+pub fn order_parts(list: &[u32], table: &Table) -> [Part; MOST_PARTS]
     requires { ⌜ Adjacent (now list) (now table) ⌝ }
-    ensures { λ r. ⌜ take (stationOf (now (list .entry)) .parts) r ≡ order (stationOf (now (list .entry))) ⌝ }
-    ensures { λ r. ⌜ ((k : ℕ) → getD r k 0 < mostParts) ⌝ }
+    ensures { λ r. ⌜ take (stationOf (now (list .entry)) .parts) (partNumbers r) ≡ order (stationOf (now (list .entry))) ⌝ }
+    ensures { λ r. ⌜ ((k : ℕ) → getD (partNumbers r) k 0 < mostParts) ⌝ }
 {
     let n = fields::part_count(list);
-    let s = fields::source(list).0;
-    let mut parts = [s; MOST_PARTS];
-    let mut witness = [s; MOST_PARTS];
+    let s = fields::source(list);
+    let mut part = [s; MOST_PARTS];
+    let mut witness = [s.0; MOST_PARTS];
     let mut unranked = [true; MOST_PARTS];
-    unranked[s as usize] = false;
+    unranked[s.0 as usize] = false;
     let mut k = 1;
     while k < n {
-        let w = choose(list, table, &unranked, &mut witness).0;
-        parts[k] = w;
-        unranked[w as usize] = false;
+        let w = choose(list, table, &unranked, &mut witness);
+        part[k] = w;
+        unranked[w.0 as usize] = false;
         k += 1;
     }
-    parts
+    part
 }
 
-// Rank by part and part by rank, from the last rank down.
-pub fn ranking_of(parts: &[u16; MOST_PARTS], n: usize) -> Ranking
-    requires { ⌜ (n ≤ mostParts) × (length (now parts) ≡ mostParts) × ((k : ℕ) → getD (now parts) k 0 < mostParts) ⌝ }
-    ensures { λ r. ⌜ BothWays (take n (now (parts .entry))) r ⌝ }
+// Rank by part, from part by rank: the last rank first.
+pub fn ranks_of(part: [Part; MOST_PARTS], n: usize) -> [Rank; MOST_PARTS]
+    requires { ⌜ n ≤ mostParts ⌝ }
+    requires { ⌜ ((k : ℕ) → getD (partNumbers part) k 0 < mostParts) ⌝ }
+    ensures { λ r. ⌜ RanksOf (take n (partNumbers part)) r ⌝ }
 {
-    let mut rank = [Rank(0); MOST_PARTS];
-    let mut part = [Part(0); MOST_PARTS];
+    let mut rank = [Rank::of(0); MOST_PARTS];
     let mut k = n;
     while 0 < k {
         k -= 1;
-        let p = parts[k];
-        part[k] = Part(p);
-        rank[p as usize] = Rank(k as u8);
+        rank[part[k].0 as usize] = Rank::of(k as u16);
     }
-    Ranking { rank, part }
+    rank
 }

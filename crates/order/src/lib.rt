@@ -32,8 +32,8 @@ pub struct Ranking {
 pub struct Graph {
     pub parts: usize,
     pub cables: usize,
-    pub lower: [u8; MOST_CABLES],
-    pub upper: [u8; MOST_CABLES],
+    pub lower: [Rank; MOST_CABLES],
+    pub upper: [Rank; MOST_CABLES],
 }
 
 // 9: 'a part that part 0 doesn't reach', 'lowest such part'.
@@ -72,8 +72,9 @@ pub fn rank_parts(list: &[u32]) -> Ranking
 {
     let n = fields::part_count(list);
     let table = adjacency::table_of(list);
-    let parts = choose::order_parts(list, &table);
-    choose::ranking_of(&parts, n)
+    let part = choose::order_parts(list, &table);
+    let rank = choose::ranks_of(part, n);
+    Ranking { rank, part }
 }
 
 // The cables of a list that passed, in ranks.
@@ -85,14 +86,14 @@ pub fn rank_cables(list: &[u32], ranking: Ranking) -> Graph
 {
     let cables = fields::cable_count(list);
     let rank = ranking.rank;
-    let mut lower = [0u8; MOST_CABLES];
-    let mut upper = [0u8; MOST_CABLES];
+    let mut lower = [Rank(0); MOST_CABLES];
+    let mut upper = [Rank(0); MOST_CABLES];
     let mut i = 0;
     while i < cables {
         let a = rank[fields::one_part(list, i).0 as usize];
         let b = rank[fields::other_part(list, i).0 as usize];
-        lower[i] = cables::lower_of(a, b).0;
-        upper[i] = cables::upper_of(a, b).0;
+        lower[i] = cables::lower_of(a, b);
+        upper[i] = cables::upper_of(a, b);
         i += 1;
     }
     Graph {

@@ -13,7 +13,7 @@ use Rattle.lists.proofs.Stores.{stored-as}
 use Rattle.station.specs.Station.{stationOf}
 use Rattle.station.specs.declared.Verdict.{Verdict}
 use Rattle.station.specs.declared.Verdict.the-variants.{Passed, Refused}
-use Rattle.station.specs.Checks.{firstRefusal, Clear}
+use Rattle.station.specs.Checks.{firstRefusal}
 use Rattle.order.specs.Checks.{allChecks}
 use Rattle.drawing.specs.Drawing.{Drawing, crossings}
 use Rattle.drawing.specs.Sheet.{sheetWords}

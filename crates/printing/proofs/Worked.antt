@@ -3,16 +3,15 @@ use Prim.Native.Nat.{ℕ}
 use mathlib.Core.Path.{_≡_, refl, _∙_}
 use mathlib.Core.List.{List, [], _∷_}
 use Rattle.lists.specs.Select.{upFrom, range, tabulate}
-use Rattle.station.specs.Checks.{orElse, firstRefusal, atWhen, check1, listChecks}
-use Rattle.order.specs.Checks.{allChecks}
 use Rattle.hookup.specs.Outcome.{fitted, orDrawn, outcome}
-use Rattle.hookup.proofs.Table.{triangle}
-use Rattle.hookup.proofs.Triangle.{nine, triangle-passes, triangle-words}
+use Rattle.order.proofs.Triangle.{triangle, triangle-passes}
+use Rattle.hookup.proofs.Triangle.{nine, triangle-words}
 use Rattle.text.specs.Ascii.{ascii}
 use Rattle.text.specs.Bytes.{wordsIn}
 use Rattle.text.specs.Lines.{hexDigit, hexHalf, hexLine, hexLines, digits, decimal, refusedLine}
 use Rattle.printing.specs.Printed.{room, loaded, answerText, printed}
 use Rattle.printing.specs.declared.Loaded.the-variants.{Words}
+use Rattle.hookup.proofs.Computing.{hookup-computing}
 
 -- '`10030003 20000002 30000001 30001002 30000002`', 'each word most significant byte first'
 abbrev pub triangleFile : List ℕ
@@ -46,7 +45,7 @@ triangle-printed = rw (file-whole, file-words) (answer-text ∙ nine-text)
 
 -- 'no words: 0'
 pub empty-printed : printed [] room ≡ ascii "refused 1 0\n"
-unfolding printed loaded wordsIn upFrom range tabulate outcome orDrawn firstRefusal listChecks allChecks orElse check1 atWhen refusedLine decimal digits
+unfolding hookup-computing printed loaded wordsIn refusedLine decimal digits
 empty-printed = refl
 
 pub broken-printed : printed (0x10 ∷ 3 ∷ 0 ∷ 3 ∷ 0x20 ∷ []) room ≡ ascii "broken file\n"

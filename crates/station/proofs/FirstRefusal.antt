@@ -3,7 +3,8 @@
 use Prim.Native.Nat.{ℕ, _≤_}
 use native.Mathlib.Omega.{arith}
 use mathlib.Core.Path.{_≡_, refl, sym, _∙_}
-use mathlib.Core.List.{List, [], _∷_, _++_, List·Memᴰ, List·Memᴰ·head, List·Memᴰ·tail}
+use mathlib.Core.Logic.{_⊎_, inl, inr}
+use mathlib.Core.List.{List, [], _∷_, _++_, map, List·Memᴰ, List·Memᴰ·head, List·Memᴰ·tail}
 use lib.Dec.{leb}
 use borrow.Author.Tests.{le-leb}
 use Rattle.lists.specs.declared.Found.{Found}
@@ -34,6 +35,12 @@ unfolding orElse
 orElse-refused k n p (At q) v w h e = e
 orElse-refused k n p Nothing v w h e = h e
 
+-- a refusal is this check's or a later one's
+orElse-number : (k : ℕ) (f : Found) (later : Verdict) {n p : ℕ} → orElse k f later ≡ Refused n p → (n ≡ k) ⊎ (later ≡ Refused n p)
+unfolding orElse
+orElse-number k (At q) later e = inl cc
+orElse-number k Nothing later e = inr e
+
 module _ (list : List ℕ) where
   -- nothing is found in a prefix: the rest decides
   pub rest-decides : (cs ds : List Check) → Clear cs list → firstRefusal (cs ++ ds) list ≡ firstRefusal ds list
@@ -54,6 +61,17 @@ module _ (list : List ℕ) where
   refused-before [] ds n p h = let z : _≡_ {A = ℕ} 0 1 = cc in absurd (omega arith)
   refused-before (c ∷ cs) ds n p h =
       orElse-refused (c .number) n p (c .finds list) (firstRefusal cs list) (firstRefusal (cs ++ ds) list) (refused-before cs ds n p) h
+
+  -- a refusal has the number of one of the checks
+  pub refused-number : (cs : List Check) {n p : ℕ} → firstRefusal cs list ≡ Refused n p → List·Memᴰ n (map (λ (c : Check). c .number) cs)
+  unfolding firstRefusal
+  refused-number [] h = let z : _≡_ {A = ℕ} 0 1 = cc in absurd (omega arith)
+  refused-number (c ∷ cs) {n} {p} h = go (λ e. refused-number cs e) (orElse-number (c .number) (c .finds list) (firstRefusal cs list) h)
+    where
+      go : (firstRefusal cs list ≡ Refused n p → List·Memᴰ n (map (λ (d : Check). d .number) cs)) → (n ≡ c .number) ⊎ (firstRefusal cs list ≡ Refused n p)
+          → List·Memᴰ n (map (λ (d : Check). d .number) (c ∷ cs))
+      go later (inl e) = List·Memᴰ·head e
+      go later (inr e) = List·Memᴰ·tail (later e)
 
   pub clear-each : (cs : List Check) {c : Check} → Clear cs list → List·Memᴰ c cs → c .finds list ≡ Nothing
   unfolding firstRefusal

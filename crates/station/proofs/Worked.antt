@@ -1,11 +1,9 @@
 -- Document 01's triangle passes checks 1 to 8, and of two checks that apply to a list the earlier is the refusal. Assumes nothing.
 use mathlib.Core.Path.{_≡_, refl}
 use mathlib.Core.List.{[], _∷_}
-use Rattle.lists.specs.Search.{seek}
-use Rattle.lists.specs.Select.{count}
 use Rattle.station.specs.declared.Verdict.the-variants.{Passed, Refused}
-use Rattle.station.specs.Station.{cableOf, stationOf, joins, degree}
-use Rattle.station.specs.Checks.{orElse, firstRefusal, atWhen, check1, kindAt, misplaced, check2, check3, check4, outside, check5, check6, sameParts, repeated, check7, check8, listChecks}
+use Rattle.station.specs.Checks.{firstRefusal, listChecks}
+use Rattle.station.proofs.Computing.{station-computing}
 
 record Worked : Type 0 where
   triangle : firstRefusal listChecks (0x10030003 ∷ 0x20000002 ∷ 0x30000001 ∷ 0x30001002 ∷ 0x30000002 ∷ []) ≡ Passed
@@ -14,7 +12,7 @@ record Worked : Type 0 where
   five-before-six : firstRefusal listChecks (0x10030001 ∷ 0x20001001 ∷ 0x30000003 ∷ []) ≡ Refused 5 2
 
 worked : Worked
-unfolding seek count cableOf stationOf joins degree orElse firstRefusal atWhen check1 kindAt misplaced check2 check3 check4 outside check5 check6 sameParts repeated check7 check8 listChecks
+unfolding station-computing
 worked = record {
   triangle = refl;
   two-before-three = refl;

@@ -8,6 +8,7 @@ use lib.ListN.{length, set, length-map}
 use lib.Seq.{sets, set-comm}
 use lib.Dec.{eqb}
 use borrow.Author.Tests.{ne-eqb}
+use Rattle.lists.proofs.Filters.{length-consIf}
 use Rattle.lists.specs.Select.{oneIf, consIf}
 use Rattle.lists.specs.Stores.{Stored}
 use Rattle.lists.proofs.Tests.{oneIf-le}
@@ -48,10 +49,6 @@ map-if : (b : Bool) (s : Spot) (l : List Spot) → map cornerSpotWord (consIf b 
 unfolding cornerSpotWord
 map-if true s l = refl
 map-if false s l = refl
-
-length-if : {A : Type 0} (b : Bool) (x : A) (l : List A) → length (consIf b x l) ≡ oneIf b + length l
-length-if true x l = omega arith
-length-if false x l = omega arith
 
 module _ (c : Course) where
   -- the cable leaves its lower part downward; beside its lower part's column; its upper part's; comes to its upper part from above
@@ -97,14 +94,14 @@ module _ (c : Course) where
   corner-words h = rw (corners-are h) (simp (map-if, append-nil))
 
   pub corner-count : c .low < c .high → length (cornersOf c) ≡ oneIf (dips && shifts) + oneIf (dips || shifts) + oneIf returns + oneIf drops
-  corner-count h = rw (corners-are h) (simp length-if (omega arith))
+  corner-count h = rw (corners-are h) (simp length-consIf (omega arith))
 
 -- Words stored
 
 -- the room that is left, once a word is stored if it was to be
 pub room-left :
     {l m : List ℕ} {at i : ℕ} (b : Bool) (w rest : ℕ) → Stored l at (consIf b w []) m i → at + (oneIf b + rest) ≤ length l → i + rest ≤ length m
-room-left b w rest S h = omega (arith, S .place, length-if b w [], stored-kept S)
+room-left b w rest S h = omega (arith, S .place, length-consIf b w [], stored-kept S)
 
 pub stored-taken : {l m : List ℕ} {at i v : ℕ} (b : Bool) (w : ℕ) → b ≡ true → v ≡ w → Stored l at (v ∷ []) m i → Stored l at (consIf b w []) m i
 stored-taken b w e f S = stored-as (ap (λ (z : ℕ). z ∷ []) f ∙ ap (λ (t : Bool). consIf t w []) (sym e)) S

@@ -8,6 +8,14 @@ use Rattle.drawing.specs.Drawing.{Route, shareEnd}
 use Rattle.layout.specs.Points.{Course}
 use Rattle.layout.specs.Over.{over}
 
+-- by the least and the greatest of two numbers, whichever they are
+module _ (x a b low high : ℕ) (e : min a b ≡ low) (f : max a b ≡ high) where
+  pub between-above : low < x → ltb x high ≡ (ltb (min a b) x && ltb x (max a b))
+  between-above h = rw (e, f, lt-ltb low x h) refl
+
+  pub between-below : x ≤ low → ltb low x ≡ (ltb (min a b) x && ltb x (max a b))
+  between-below h = rw (e, f, le-ltb low x h) refl
+
 module _ (c d : Course) where
   pub over-1 : c .high ≤ d .low → false ≡ over c d
   unfolding over
@@ -17,15 +25,10 @@ module _ (c d : Course) where
   unfolding over
   over-2 g h = simp (lt-ltb (d .low) (c .high) g, le-ltb (c .high) (d .high) h)
 
-  pub over-3 : (a : ℕ) → a ≡ min (c .column) (c .to .x) → d .low < c .high → c .high < d .high → d .column ≤ a → false ≡ over c d
+  pub over-3 : {between : Bool} → between ≡ (ltb (min (c .column) (c .to .x)) (d .column) && ltb (d .column) (max (c .column) (c .to .x)))
+      → d .low < c .high → c .high < d .high → between ≡ over c d
   unfolding over
-  over-3 a e g h k = rw (lt-ltb (d .low) (c .high) g, lt-ltb (c .high) (d .high) h, ← e, le-ltb a (d .column) k) refl
-
-  pub over-4 :
-      (a b : ℕ) → a ≡ min (c .column) (c .to .x) → b ≡ max (c .column) (c .to .x) → d .low < c .high → c .high < d .high → a < d .column
-      → ltb (d .column) b ≡ over c d
-  unfolding over
-  over-4 a b e f g h k = rw (lt-ltb (d .low) (c .high) g, lt-ltb (c .high) (d .high) h, ← e, ← f, lt-ltb a (d .column) k) refl
+  over-3 e g h = rw (lt-ltb (d .low) (c .high) g, lt-ltb (c .high) (d .high) h) e
 
 pub share-4 :
     (r q : Route) → (r .first ≡ q .first → ⊥) → (r .first ≡ q .last → ⊥) → (r .last ≡ q .first → ⊥) → eqb (r .last) (q .last) ≡ shareEnd r q

@@ -3,16 +3,15 @@ use Prim.Native.Nat.{ℕ, _+_, _-_, _*_, _<_, _≤_}
 use native.Mathlib.Omega.{arith}
 use mathlib.Core.Path.{_≡_, refl, sym, ap, ap₂, subst, _∙_}
 use mathlib.Core.Bool.{Bool, not, _&&_, _||_}
-use mathlib.Core.List.{List, map}
-use lib.ListN.{length, getD, length-map, List·getD-map}
-use lib.Seq.{length-take-le, getD-take}
-use Rattle.words.specs.Limits.{mostCables}
-use Rattle.words.specs.declared.Rank.{Rank}
+use mathlib.Core.List.{List}
+use lib.ListN.{length, getD}
+use lib.Seq.{getD-take}
 use Rattle.order.specs.declared.Ranking.{Ranking}
 use Rattle.order.specs.Graph.{StGraph, size, lower, upper, Ranked}
 use Rattle.order.specs.Arrays.{graphIn}
 use Rattle.order.specs.Order.{rankIn}
-use Rattle.order.specs.Ranking.{rankNumbers, namesIn, Inverse}
+use Rattle.order.specs.Ranking.{namesIn, Inverse}
+use Rattle.order.proofs.LineRanks.{rankAt, rank-number}
 use Rattle.drawing.specs.Spots.{spotAt}
 use Rattle.drawing.specs.Crossing.{linesCross}
 use Rattle.drawing.specs.Drawing.{Route, spotOf, routeAt, pointsAt, shareEnd, crossPair}
@@ -24,11 +23,13 @@ use Rattle.layout.specs.Columns.{columns}
 use Rattle.layout.specs.Points.{Course, cornersOf, row, partSpot, course, rankSpot, courseOf}
 use Rattle.layout.specs.Layout.{drawnIn, layout}
 use Rattle.layout.specs.Over.{over}
-use Rattle.layout.specs.Arrays.{courseIn, noCourse, Laid}
+use Rattle.layout.specs.Courses.{CourseFits}
+use Rattle.layout.specs.Arrays.{courseIn, noCourse, IsLayout}
+use Rattle.layout.proofs.Lengths as of-graph
 use Rattle.layout.proofs.ExtraRows.{bottomRows-le}
 use Rattle.layout.proofs.Placed.{facts}
 use Rattle.layout.proofs.Cross.{linesCross-over}
-use Rattle.layout.proofs.Drawn.{CourseFits, parts-count, routes-count, spot-of, route-at, points-at, same-row, parts-le, words-count, column-fits, course-fits, fits}
+use Rattle.layout.proofs.Drawn.{parts-count, routes-count, spot-of, route-at, points-at, same-row, parts-le, words-count, column-fits, course-fits, fits}
 use Rattle.writer.specs.Values.{layoutIn, numberedIn, routeIn}
 use Rattle.writer.proofs.Sections.{route-words}
 
@@ -36,16 +37,16 @@ use Rattle.writer.proofs.Sections.{route-words}
 abbrev pub courseAt : Layout → ℕ → code-course.Course
 courseAt l i = getD (l .courses) i noCourse
 
--- What the code knows of a layout that it is handed, by its type: the array of lower ranks has its length.
-abbrev pub Room : Layout → Type 0
-Room l = length (map (λ (v : ℕ). v) (l .graph .lower)) ≡ mostCables
+-- What the code knows of a layout that it is handed, by its type.
+abbrev pub AllPlaces : Layout → Type 0
+AllPlaces l = of-graph.AllPlaces (l .graph)
 
-module _ (l : Layout) (L : Laid l) where
+module _ (l : Layout) (L : IsLayout l) where
   abbrev G : StGraph
   G = graphIn (l .graph)
 
   ranked : Ranked G
-  ranked = L .given .ranked
+  ranked = L .fits .ranked
 
   -- Parts by rank
 
@@ -60,7 +61,7 @@ module _ (l : Layout) (L : Laid l) where
   spot-at k h = spot-of G k h ∙ ap₂ spotAt (column-at k h) (ap (λ (d : ℕ). d + k) (sym (L .bottom)))
 
   pub column-small : (k : ℕ) → k < l .graph .parts → getD (l .columns .parts) k 0 < 4096
-  column-small k h = omega (arith, column-fits G ranked (L .given .least) (L .given .most) k h, column-at k h)
+  column-small k h = omega (arith, column-fits G ranked (L .fits .least) (L .fits .most) k h, column-at k h)
 
   pub bottom-small : l .«bottom_rows» ≤ 1
   bottom-small = omega (arith, L .bottom, bottomRows-le G ranked)
@@ -75,9 +76,9 @@ module _ (l : Layout) (L : Laid l) where
   unfolding courseOf course partSpot
   to-row i h = ap (λ (c : Course). c .to .y) (L .courses i h)
 
-  module _ (room : Room l) where
+  module _ (room : AllPlaces l) where
     lines : size G ≡ l .graph .cables
-    lines = length-take-le (l .graph .cables) (l .graph .lower) (omega (arith, length-map (l .graph .lower) (λ (v : ℕ). v), room, L .given .cables))
+    lines = sym (of-graph.lines-are (L .fits) room)
 
     inside : (i : ℕ) → i < l .graph .cables → i < size G
     inside i h = omega (arith, lines)
@@ -85,10 +86,10 @@ module _ (l : Layout) (L : Laid l) where
     -- Sizes
 
     pub word-count : length (sheetWords (layoutIn l)) + l .graph .parts ≡ 3 * l .graph .cables + 3 + l .«bottom_rows» + l .«top_rows»
-    word-count = omega (arith, words-count G ranked (L .given .least), lines, L .bottom, L .top)
+    word-count = omega (arith, words-count G ranked (L .fits .least), lines, L .bottom, L .top)
 
     pub parts-few : l .graph .parts ≤ l .graph .cables + 1
-    parts-few = omega (arith, parts-le G ranked (L .given .least), lines)
+    parts-few = omega (arith, parts-le G ranked (L .fits .least), lines)
 
     pub width-is : layoutIn l .width ≡ l .graph .cables + 1 - l .graph .parts
     unfolding layout drawnIn
@@ -99,10 +100,10 @@ module _ (l : Layout) (L : Laid l) where
     height-is = ap₂ (λ (d e : ℕ). l .graph .parts - 1 + d + e) (sym (L .bottom)) (sym (L .top))
 
     pub width-small : l .graph .cables + 1 - l .graph .parts < 4096
-    width-small = omega (arith, width-is, fits G ranked (L .given .least) (L .given .most) .width-fits)
+    width-small = omega (arith, width-is, fits G ranked (L .fits .least) (L .fits .most) .width-fits)
 
     pub height-small : l .graph .parts - 1 + l .«bottom_rows» + l .«top_rows» < 4096
-    height-small = omega (arith, height-is, fits G ranked (L .given .least) (L .given .most) .height-fits)
+    height-small = omega (arith, height-is, fits G ranked (L .fits .least) (L .fits .most) .height-fits)
 
     -- Cables by line
 
@@ -111,7 +112,7 @@ module _ (l : Layout) (L : Laid l) where
 
     pub course-small : (i : ℕ) → i < l .graph .cables → CourseFits (courseIn (courseAt l i))
     course-small i h =
-        subst (λ (c : Course). CourseFits c) (sym (L .courses i h)) (course-fits G ranked (L .given .least) (L .given .most) i (inside i h))
+        subst (λ (c : Course). CourseFits c) (sym (L .courses i h)) (course-fits G ranked (L .fits .least) (L .fits .most) i (inside i h))
 
     pub route-is : (line i : ℕ) → i < l .graph .cables → routeWords line (routeIn (courseAt l i)) ≡ routeWords line (routeAt (layoutIn l) i)
     route-is line i h =
@@ -164,23 +165,16 @@ module _ (l : Layout) (L : Laid l) where
   -- Parts by number
 
   module _ (r : Ranking) where
-    abbrev rankOf : ℕ → ℕ
-    rankOf p = getD (r .rank) p (record { 0 = 0 }) .0
-
     pub number-count : length (numberedIn r l .parts) ≡ l .graph .parts
     number-count = parts-renumbered (namesIn (l .graph .parts) r) (layoutIn l) ∙ part-count
 
     module _ (I : Inverse (l .graph .parts) r) where
-      rank-is : (p : ℕ) → getD (rankNumbers (r .rank)) p 0 ≡ rankOf p
-      unfolding rankNumbers
-      rank-is p = List·getD-map (λ (k : Rank). k .0) (r .rank) p (record { 0 = 0 })
-
-      pub rank-below : (p : ℕ) → p < l .graph .parts → rankOf p < l .graph .parts
-      rank-below p h = omega (arith, rank-is p, I .below p h)
+      pub rank-below : (p : ℕ) → p < l .graph .parts → rankAt (r .rank) p < l .graph .parts
+      rank-below p h = omega (arith, rank-number (r .rank) p, I .below p h)
 
       -- part p stands where its rank does
-      pub number-spot : (p : ℕ) → p < l .graph .parts → spotOf (layoutIn l) (rankOf p) ≡ spotOf (numberedIn r l) p
+      pub number-spot : (p : ℕ) → p < l .graph .parts → spotOf (layoutIn l) (rankAt (r .rank) p) ≡ spotOf (numberedIn r l) p
       unfolding rankIn
       number-spot p h =
-          ap (spotOf (layoutIn l)) (sym (rank-is p) ∙ I .rank p h)
+          ap (spotOf (layoutIn l)) (rank-number (r .rank) p ∙ I .rank p h)
           ∙ sym (spot-renumbered (namesIn (l .graph .parts) r) (layoutIn l) p (omega (arith, part-count)))

@@ -1,26 +1,27 @@
 // 'the crossings: the pairs of cables with no part in common whose lines cross'.
 use layout::Course;
 use layout::Layout;
+use lists::one_if;
 ghost use mathlib.Core.Path.{_≡_};
 ghost use mathlib.Core.Bool.{not, _&&_, _||_};
 ghost use Prim.Native.Nat.{_+_, _<_, min, max};
 ghost use lib.ListN.{drop};
-ghost use Rattle.lists.specs.Select.{count, oneIf};
+ghost use lib.Dec.{ltb};
+ghost use Rattle.lists.specs.Select.{count};
 ghost use Rattle.drawing.specs.Drawing.{routeAt, shareEnd, crossPair, crossings};
 ghost use Rattle.layout.specs.Over.{over};
-ghost use Rattle.layout.specs.Arrays.{courseIn, Laid};
+ghost use Rattle.layout.specs.Arrays.{courseIn, IsLayout};
 ghost use Rattle.writer.specs.Values.{layoutIn, routeIn};
 
-fn least(a: u16, b: u16) -> u16
-    ensures { λ r. ⌜ r ≡ min a b ⌝ }
+// x lies strictly between a and b.
+fn lies_between(x: u16, a: u16, b: u16) -> bool
+    ensures { λ r. ⌜ r ≡ (ltb (min a b) x && ltb x (max a b)) ⌝ }
 {
-    if a < b { a } else { b }
-}
-
-fn greatest(a: u16, b: u16) -> u16
-    ensures { λ r. ⌜ r ≡ max a b ⌝ }
-{
-    if a < b { b } else { a }
+    if a < b {
+        a < x && x < b
+    } else {
+        b < x && x < a
+    }
 }
 
 // The upper level run of c passes over the column of d.
@@ -33,10 +34,7 @@ fn passes_over(c: Course, d: Course) -> bool
     if d.high <= c.high {
         return false;
     }
-    if d.column <= least(c.column, c.to.x) {
-        return false;
-    }
-    d.column < greatest(c.column, c.to.x)
+    lies_between(d.column, c.column, c.to.x)
 }
 
 // The two cables have a part in common: each part has a row of its own.
@@ -68,15 +66,9 @@ fn cross(c: Course, d: Course) -> bool
     false
 }
 
-fn one_if(b: bool) -> usize
-    ensures { λ r. ⌜ r ≡ oneIf b ⌝ }
-{
-    if b { 1 } else { 0 }
-}
-
 // The cables behind line i that cross its cable.
 fn crossings_of(layout: Layout, i: usize) -> usize
-    requires { ⌜ Laid layout ⌝ }
+    requires { ⌜ IsLayout layout ⌝ }
     requires { ⌜ i < layout .graph .cables ⌝ }
     ensures { λ r. ⌜ r ≡ count (crossPair (layoutIn layout) (routeAt (layoutIn layout) i)) (drop (i + 1) (layoutIn layout .routes)) ⌝ }
 {
@@ -85,14 +77,14 @@ fn crossings_of(layout: Layout, i: usize) -> usize
     let mut got = 0;
     let mut j = i + 1;
     while j < m {
-        got += one_if(cross(c, layout.courses[j]));
+        got += one_if(cross(c, layout.courses[j])) as usize;
         j += 1;
     }
     got
 }
 
 pub fn count_crossings(layout: Layout) -> usize
-    requires { ⌜ Laid layout ⌝ }
+    requires { ⌜ IsLayout layout ⌝ }
     ensures { λ r. ⌜ r ≡ crossings (layoutIn layout) ⌝ }
 {
     let m = layout.graph.cables;

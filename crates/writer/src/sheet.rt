@@ -16,13 +16,13 @@ ghost use Rattle.order.specs.Ranking.{Inverse};
 ghost use Rattle.drawing.specs.Drawing.{spotOf};
 ghost use Rattle.drawing.specs.Sheet.{partSpotWord, cornerSpotWord, routeWords, headSection, partsSection, cablesSection, sheetWords};
 ghost use Rattle.layout.specs.Points.{cornersOf};
-ghost use Rattle.layout.specs.Arrays.{courseIn, Laid};
-ghost use Rattle.layout.proofs.Drawn.{CourseFits};
+ghost use Rattle.layout.specs.Arrays.{courseIn, IsLayout};
+ghost use Rattle.layout.specs.Courses.{CourseFits};
 ghost use Rattle.writer.specs.Values.{layoutIn, numberedIn, routeIn};
 
 // '3m - n + 3 + d + e words'.
 pub fn count_words(layout: Layout) -> usize
-    requires { ⌜ Laid layout ⌝ }
+    requires { ⌜ IsLayout layout ⌝ }
     ensures { λ r. ⌜ r ≡ length (sheetWords (layoutIn layout)) ⌝ }
 {
     let n = layout.graph.parts;
@@ -41,7 +41,7 @@ fn put(sheet: &mut [u32], at: usize, w: Word) -> usize
 
 // 'The sheet has m - n + 1 as width, n - 1 + d + e as height'.
 fn head_word(layout: Layout) -> Word
-    requires { ⌜ Laid layout ⌝ }
+    requires { ⌜ IsLayout layout ⌝ }
     ensures { λ r. ⌜ r .0 ∷ [] ≡ headSection (layoutIn layout) ⌝ }
 {
     let n = layout.graph.parts as u16;
@@ -51,18 +51,18 @@ fn head_word(layout: Layout) -> Word
 
 // The word of the part of rank k: 'Rank k stands in row d + k.'
 fn part_word(layout: Layout, k: Rank) -> Word
-    requires { ⌜ Laid layout ⌝ }
+    requires { ⌜ IsLayout layout ⌝ }
     requires { ⌜ k .0 < layout .graph .parts ⌝ }
     ensures { λ r. ⌜ r .0 ≡ partSpotWord (spotOf (layoutIn layout) (k .0)) ⌝ }
 {
     let columns = layout.columns;
-    let place = k.0 as usize;
-    Word::part(columns.parts[place], layout.bottom_rows + k.0 as u16)
+    let rank = k.number();
+    Word::part(columns.parts[rank as usize], layout.bottom_rows + rank)
 }
 
 // The parts by number.
 fn put_parts(sheet: &mut [u32], at: usize, ranking: Ranking, layout: Layout) -> usize
-    requires { ⌜ Laid layout ⌝ }
+    requires { ⌜ IsLayout layout ⌝ }
     requires { ⌜ Inverse (layout .graph .parts) ranking ⌝ }
     requires { ⌜ at + layout .graph .parts ≤ length (now sheet) ⌝ }
     ensures { λ r. ⌜ Stored (now (sheet .entry)) at (partsSection (numberedIn ranking layout)) (now (sheet .exit)) r ⌝ }
@@ -128,7 +128,7 @@ fn put_cable(sheet: &mut [u32], at: usize, line: u16, c: Course) -> usize
 
 // The cables by line.
 fn put_cables(sheet: &mut [u32], at: usize, layout: Layout) -> usize
-    requires { ⌜ Laid layout ⌝ }
+    requires { ⌜ IsLayout layout ⌝ }
     requires { ⌜ at + length (cablesSection (layoutIn layout)) ≤ length (now sheet) ⌝ }
     ensures { λ r. ⌜ Stored (now (sheet .entry)) at (cablesSection (layoutIn layout)) (now (sheet .exit)) r ⌝ }
 {
@@ -144,7 +144,7 @@ fn put_cables(sheet: &mut [u32], at: usize, layout: Layout) -> usize
 
 // All words of a sheet, from the front.
 pub fn put_sheet(sheet: &mut [u32], ranking: Ranking, layout: Layout) -> usize
-    requires { ⌜ Laid layout ⌝ }
+    requires { ⌜ IsLayout layout ⌝ }
     requires { ⌜ Inverse (layout .graph .parts) ranking ⌝ }
     requires { ⌜ length (sheetWords (layoutIn layout)) ≤ length (now sheet) ⌝ }
     ensures { λ r. ⌜ Stored (now (sheet .entry)) 0 (sheetWords (numberedIn ranking layout)) (now (sheet .exit)) r ⌝ }

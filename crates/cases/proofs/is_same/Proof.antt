@@ -1,6 +1,5 @@
 -- `cases::is_same` meets its contract. Assumes nothing.
 use Prim.Native.Nat.{_≤_, _-_}
-use mathlib.Core.Path.{_≡_}
 use borrow.Author.Needs.{needs}
 use lib.ListN.{length}
 use Rattle.cases.proofs.is_same.Statement.{statement}

@@ -1,9 +1,9 @@
 -- The stages' values in a row are the sheet of the list's station, or its words are too many. Assumes nothing.
 use native.Mathlib.Omega.{arith}
-use mathlib.Core.Path.{_≡_, ap, _∙_}
+use mathlib.Core.Path.{ap, _∙_}
 use borrow.Author.Needs.{needs}
 use Rattle.order.specs.Arrays.{graphIn}
-use Rattle.hookup.proofs.Stages.{given, words-are, crossings-counted, inverse, sheet-is}
+use Rattle.hookup.proofs.Stages.{graph-fits, words-are, crossings-counted, inverse, sheet-is}
 use Rattle.hookup.proofs.Answers.{drew-short, drew-sheet}
 use Rattle.hookup.proofs.draw_station.Statement.{statement}
 use Rattle.hookup.proofs.draw_station.Tie as tie
@@ -15,7 +15,7 @@ rank-cables-requires : tie.Need-rank-cables-requires
 rank-cables-requires c κs = search needs
 
 lay-out-requires : tie.Need-lay-out-requires
-lay-out-requires c κs = given _ (c .before .before .before .before .pre) (c .rank-cables .ensures .0) (c .rank-cables .ensures .1)
+lay-out-requires c κs = graph-fits _ (c .before .before .before .before .pre) (c .rank-cables .ensures .0) (c .rank-cables .ensures .1)
 
 count-words-requires : tie.Need-count-words-requires
 count-words-requires c κs = search needs

@@ -2,7 +2,8 @@
 use Prim.Native.Nat.{_-_}
 use borrow.Author.Needs.{needs}
 use Rattle.lists.proofs.Seeking.{Seeking, seeking-start}
-use Rattle.order.proofs.Drawables.{words8, drawable8}
+use Rattle.station.proofs.Passed.{wired}
+use Rattle.order.proofs.Neighbours.{words-8}
 use Rattle.order.proofs.Connected.{cuts, check10-next, check10-at, check10-none}
 use Rattle.order.proofs.check10.Statement.{statement}
 use Rattle.order.proofs.check10.Tie as tie
@@ -14,10 +15,10 @@ abbrev μ-loop : tie.MeasureT-loop
 μ-loop list n table all v₀ v = n - v
 
 part-count-requires : tie.Need-part-count-requires Inv-loop μ-loop
-part-count-requires c κs = search (words8, needs)
+part-count-requires c κs = search (words-8, needs)
 
 table-of-requires : tie.Need-table-of-requires Inv-loop μ-loop
-table-of-requires c κs = search (drawable8, needs)
+table-of-requires c κs = search (wired, needs)
 
 loop-holds : tie.Need-loop-holds Inv-loop μ-loop
 loop-holds c = seeking-start _ _

@@ -1,15 +1,16 @@
 -- `order::check9` meets its contract. Assumes nothing.
 use borrow.Author.Needs.{needs}
-use Rattle.order.proofs.Drawables.{words8, drawable8}
+use Rattle.station.proofs.Passed.{wired}
+use Rattle.order.proofs.Neighbours.{words-8}
 use Rattle.order.proofs.Connected.{check9-found}
 use Rattle.order.proofs.check9.Statement.{statement}
 use Rattle.order.proofs.check9.Tie as tie
 
 part-count-requires : tie.Need-part-count-requires
-part-count-requires c κs = search (words8, needs)
+part-count-requires c κs = search (words-8, needs)
 
 table-of-requires : tie.Need-table-of-requires
-table-of-requires c κs = search (drawable8, needs)
+table-of-requires c κs = search (wired, needs)
 
 unreached-requires : tie.Need-unreached-requires
 unreached-requires c κs = search needs

@@ -5,19 +5,21 @@ use lib.ListN.{length}
 use borrow.Author.Needs.{needs}
 use denote.Ref.{now}
 use Rattle.words.specs.Limits.{mostCables}
-use Rattle.lists.proofs.Fill.{Filled, filled-more}
+use Rattle.lists.proofs.Fill.{Filled}
+use Rattle.station.proofs.Cables.{line-word}
 use Rattle.station.specs.Station.{stationOf}
 use Rattle.order.specs.Graph.{lower, upper}
 use Rattle.order.specs.Ends.{graphOf}
+use Rattle.order.specs.Ranking.{rankNumbers}
 use Rattle.order.proofs.Passed.{lines-most}
-use Rattle.order.proofs.Drawables.{drawable10}
-use Rattle.order.proofs.LineRanks.{blank, length-blank, filled-blank, line-word, one-below, other-below, lower-line, upper-line, lines-ranked}
+use Rattle.order.proofs.Neighbours.{words-10}
+use Rattle.order.proofs.LineRanks.{blank, length-blank, filled-blank, filled-rank, one-below, other-below, lower-line, upper-line, lines-ranked}
 use Rattle.order.proofs.rank_cables.Statement.{statement}
 use Rattle.order.proofs.rank_cables.Tie as tie
 
 abbrev Inv-loop : tie.InvT-loop
 Inv-loop list cables rank lower₀ upper₀ i₀ lowers uppers i =
-    (i ≤ cables) × Filled (lower (graphOf (stationOf list))) 0 i blank lowers × Filled (upper (graphOf (stationOf list))) 0 i blank uppers
+    (i ≤ cables) × Filled (lower (graphOf (stationOf list))) 0 i blank (rankNumbers lowers) × Filled (upper (graphOf (stationOf list))) 0 i blank (rankNumbers uppers)
 
 abbrev μ-loop : tie.MeasureT-loop
 μ-loop list cables rank lower₀ upper₀ i₀ lowers uppers i = cables - i
@@ -33,13 +35,13 @@ module _ (c : tie.In-loop Inv-loop μ-loop) where
   place = omega (arith, room, length-blank)
 
 cable-count-requires : tie.Need-cable-count-requires Inv-loop μ-loop
-cable-count-requires c κs = drawable10 _ (c .before .pre .0) .words
+cable-count-requires c κs = words-10 _ (c .before .pre .0)
 
 loop-holds : tie.Need-loop-holds Inv-loop μ-loop
 loop-holds c = (omega arith, filled-blank _, filled-blank _)
 
 one-part-requires : tie.Need-one-part-requires Inv-loop μ-loop
-one-part-requires c κs = line-word _ (c .before .before .before .before .before .pre .0) _ (line c)
+one-part-requires c κs = line-word _ _ (line c)
 
 cast-a : tie.Need-cast-a Inv-loop μ-loop
 cast-a c = search needs
@@ -48,7 +50,7 @@ array-copy-out-a : tie.Need-array-copy-out-a Inv-loop μ-loop
 array-copy-out-a c = one-below _ (c .before .before .before .before .before .before .before .pre .0) _ (c .before .one-part .ensures)
 
 other-part-requires : tie.Need-other-part-requires Inv-loop μ-loop
-other-part-requires c κs = line-word _ (c .before .before .before .before .before .before .before .before .pre .0) _ (line (c .before .before .before))
+other-part-requires c κs = line-word _ _ (line (c .before .before .before))
 
 cast-b : tie.Need-cast-b Inv-loop μ-loop
 cast-b c = search needs
@@ -59,14 +61,14 @@ array-copy-out-b c = other-below _ (c .before .before .before .before .before .b
 lower-of-requires : tie.Need-lower-of-requires Inv-loop μ-loop
 lower-of-requires c κs = search needs
 
-array-write-lower : tie.Need-array-write-lower Inv-loop μ-loop
-array-write-lower c = room (c .before .before .before .before .before .before .before)
+array-set-from-lower : tie.Need-array-set-from-lower Inv-loop μ-loop
+array-set-from-lower c = room (c .before .before .before .before .before .before .before)
 
 upper-of-requires : tie.Need-upper-of-requires Inv-loop μ-loop
 upper-of-requires c κs = search needs
 
-array-write-upper : tie.Need-array-write-upper Inv-loop μ-loop
-array-write-upper c = room (c .before .before .before .before .before .before .before .before)
+array-set-from-upper : tie.Need-array-set-from-upper Inv-loop μ-loop
+array-set-from-upper c = room (c .before .before .before .before .before .before .before .before)
 
 add-i : tie.Need-add-i Inv-loop μ-loop
 add-i c = search needs
@@ -82,12 +84,12 @@ loop-again c =
     let one = c .before .before .before .before .before .before .before .one-part .ensures in
     let other = c .before .before .before .before .other-part .ensures in (
       omega arith,
-      filled-more _ 0 _ (place k) (lower-line _ (s .pre .0) (s .pre .1) (l .i) (line k) one other (c .before .lower-of .ensures)) (l .inv .1),
-      filled-more _ 0 _ (place k) (upper-line _ (s .pre .0) (s .pre .1) (l .i) (line k) one other (c .upper-of .ensures)) (l .inv .2),
+      filled-rank _ _ _ (place k) (lower-line _ (s .pre .0) (s .pre .1) (l .i) (line k) one other (c .before .lower-of .ensures)) (l .inv .1),
+      filled-rank _ _ _ (place k) (upper-line _ (s .pre .0) (s .pre .1) (l .i) (line k) one other (c .upper-of .ensures)) (l .inv .2),
     )
 
 part-count-requires : tie.Need-part-count-requires Inv-loop μ-loop
-part-count-requires c κs = drawable10 _ (c .before .before .before .before .before .pre .0) .words
+part-count-requires c κs = words-10 _ (c .before .before .before .before .before .pre .0)
 
 returns : tie.Need-returns Inv-loop μ-loop
 returns c =
@@ -113,9 +115,9 @@ rank-cables-spec =
     cast-b
     array-copy-out-b
     lower-of-requires
-    array-write-lower
+    array-set-from-lower
     upper-of-requires
-    array-write-upper
+    array-set-from-upper
     add-i
     loop-less
     loop-again

@@ -1,21 +1,22 @@
 -- `order::rank_parts` meets its contract. Assumes nothing.
 use borrow.Author.Needs.{needs}
-use Rattle.order.proofs.Drawables.{words10, drawable10}
+use Rattle.order.proofs.Passed.{list-wired}
+use Rattle.order.proofs.Neighbours.{words-10}
 use Rattle.order.proofs.Rankings.{ranking-done}
 use Rattle.order.proofs.rank_parts.Statement.{statement}
 use Rattle.order.proofs.rank_parts.Tie as tie
 
 part-count-requires : tie.Need-part-count-requires
-part-count-requires c κs = search (words10, needs)
+part-count-requires c κs = search (words-10, needs)
 
 table-of-requires : tie.Need-table-of-requires
-table-of-requires c κs = search (drawable10, needs)
+table-of-requires c κs = search (list-wired, needs)
 
 order-parts-requires : tie.Need-order-parts-requires
 order-parts-requires c κs = search needs
 
-ranking-of-requires : tie.Need-ranking-of-requires
-ranking-of-requires c κs = search needs
+ranks-of-requires : tie.Need-ranks-of-requires
+ranks-of-requires c κs = search needs
 
 returns : tie.Need-returns
 returns c = search (ranking-done, needs)
@@ -27,5 +28,5 @@ rank-parts-spec =
     part-count-requires
     table-of-requires
     order-parts-requires
-    ranking-of-requires
+    ranks-of-requires
     returns)

@@ -5,18 +5,18 @@ use mathlib.Core.Path.{_≡_, _∙_}
 use lib.ListN.{length, getD, take, length-replicate, length-set}
 use Rattle.words.specs.Limits.{mostCables}
 use Rattle.lists.proofs.Kept.{below-set}
+use Rattle.order.specs.Ranking.{rankNumbers}
 use Rattle.order.specs.Arrays.{graphIn}
 use Rattle.layout.specs.Points.{courseOf}
 use Rattle.layout.specs.Arrays.{courseIn, noCourse}
-use Rattle.layout.specs.Incidents.{graphOf}
-use Rattle.layout.proofs.Lengths.{lower-lent, parts-lent}
+use Rattle.layout.proofs.Lengths.{lines-count, parts-lent}
 use Rattle.layout.proofs.Lanes.{cable-reaches, cable-course}
 use Rattle.layout.proofs.courses.courses_of.Statement.{statement}
 use Rattle.layout.proofs.courses.courses_of.Tie as tie
 
 abbrev Inv-loop : tie.InvT-loop
 Inv-loop ends lower upper cables parts n m courses₀ i₀ courses i =
-    (i ≤ m) × (length courses ≡ mostCables) × ((j : ℕ) → j < i → courseIn (getD courses j noCourse) ≡ courseOf (graphOf n (take m lower) (take m upper)) j)
+    (i ≤ m) × (length courses ≡ mostCables) × ((j : ℕ) → j < i → courseIn (getD courses j noCourse) ≡ courseOf (record { parts = n; lowers = take m (rankNumbers lower); uppers = take m (rankNumbers upper) }) j)
 
 abbrev μ-loop : tie.MeasureT-loop
 μ-loop ends lower upper cables parts n m courses₀ i₀ courses i = m - i
@@ -27,33 +27,30 @@ no-course-requires c κs = tt
 loop-holds : tie.Need-loop-holds Inv-loop μ-loop
 loop-holds c = (omega arith, length-replicate mostCables (c .no-course .result), λ j h. absurd (omega arith))
 
-array-read-cable-of : tie.Need-array-read-cable-of Inv-loop μ-loop
-array-read-cable-of c = omega arith
+array-copy-out-t17 : tie.Need-array-copy-out-t17 Inv-loop μ-loop
+array-copy-out-t17 c = omega arith
 
-array-read-cable-of-2 : tie.Need-array-read-cable-of-2 Inv-loop μ-loop
-array-read-cable-of-2 c = omega arith
+array-copy-out-t20 : tie.Need-array-copy-out-t20 Inv-loop μ-loop
+array-copy-out-t20 c = omega arith
 
-mul-cable-of : tie.Need-mul-cable-of Inv-loop μ-loop
-mul-cable-of c = omega arith
+mul-t21 : tie.Need-mul-t21 Inv-loop μ-loop
+mul-t21 c = omega arith
 
-array-read-cable-of-3 : tie.Need-array-read-cable-of-3 Inv-loop μ-loop
-array-read-cable-of-3 c = omega arith
-
-cable-of-requires : tie.Need-cable-of-requires Inv-loop μ-loop
-cable-of-requires c κs = tt
+array-read-t24 : tie.Need-array-read-t24 Inv-loop μ-loop
+array-read-t24 c = omega arith
 
 array-share-prefix-parts : tie.Need-array-share-prefix-parts Inv-loop μ-loop
-array-share-prefix-parts c = let s = c .before .before .before .before .before .before .before .before in parts-lent (s .pre .0) (s .args .columns) (s .good .1 .0) .within
+array-share-prefix-parts c = let s = c .before .before .before .before .before .before .before .before .before in parts-lent (s .pre .0) (s .args .columns) (s .good .1 .0) .within
 
 slice-aggregate-course-of : tie.Need-slice-aggregate-course-of Inv-loop μ-loop
-slice-aggregate-course-of c = let s = c .before .before .before .before .before .before .before .before .before in parts-lent (s .pre .0) (s .args .columns) (s .good .1 .0) .lines
+slice-aggregate-course-of c = let s = c .before .before .before .before .before .before .before .before .before .before in parts-lent (s .pre .0) (s .args .columns) (s .good .1 .0) .lines
 
 course-of-requires : tie.Need-course-of-requires Inv-loop μ-loop
 course-of-requires c κs =
-    let s = c .before .before .before .before .before .before .before .before .before in
+    let s = c .before .before .before .before .before .before .before .before .before .before in
     let v = s .pre .0 in
-    cable-reaches v (s .pre .1 .0) (c .before .before .before .loop .i) (c .before .before .loop-test .taken) (c .before .cable-of .ensures) (s .pre .1 .1) _
-    (lower-lent v (s .good .0) .lines) (parts-lent v (s .args .columns) (s .good .1 .0) .lines)
+    cable-reaches v (s .pre .1 .0) (c .before .before .before .before .loop .i) (c .before .before .before .loop-test .taken) (s .pre .1 .1) _ (lines-count v (s .good .0))
+    (parts-lent v (s .args .columns) (s .good .1 .0) .lines)
 
 mul-courses : tie.Need-mul-courses Inv-loop μ-loop
 mul-courses c = omega arith
@@ -69,9 +66,9 @@ loop-less c = omega arith
 
 loop-again : tie.Need-loop-again Inv-loop μ-loop
 loop-again c =
-    let s = c .before .before .before .before .before .before .before .before .before .before in
-    let l = c .before .before .before .before .loop in
-    let r = cable-course (s .pre .0) (s .pre .1 .0) (l .i) (c .before .before .before .loop-test .taken) (c .before .before .cable-of .ensures) (s .pre .1 .1) (c .course-of .ensures) in (
+    let s = c .before .before .before .before .before .before .before .before .before .before .before in
+    let l = c .before .before .before .before .before .loop in
+    let r = cable-course (s .pre .0) (s .pre .1 .0) (l .i) (c .before .before .before .before .loop-test .taken) (s .pre .1 .1) (c .course-of .ensures) in (
       omega arith,
       length-set (l .courses) (l .i) _ ∙ l .inv .1,
       below-set (λ j x. courseIn x ≡ courseOf (graphIn (s .args .graph)) j) (l .courses) (l .i) (c .course-of .result) noCourse (omega arith) (l .inv .2) r,
@@ -88,11 +85,10 @@ courses-of-spec =
     μ-loop
     no-course-requires
     loop-holds
-    array-read-cable-of
-    array-read-cable-of-2
-    mul-cable-of
-    array-read-cable-of-3
-    cable-of-requires
+    array-copy-out-t17
+    array-copy-out-t20
+    mul-t21
+    array-read-t24
     array-share-prefix-parts
     slice-aggregate-course-of
     course-of-requires

@@ -2,7 +2,7 @@
 use mathlib.Core.Path.{ap, _∙_}
 use Rattle.order.specs.Arrays.{graphIn}
 use Rattle.layout.specs.Columns.{topLine}
-use Rattle.layout.proofs.Lengths.{lower-lent}
+use Rattle.layout.proofs.Lengths.{lines-count}
 use Rattle.layout.proofs.Lanes.{ends-read}
 use Rattle.layout.proofs.ends.ends_of.Statement.{statement}
 use Rattle.layout.proofs.ends.ends_of.Tie as tie
@@ -23,7 +23,7 @@ returns : tie.Need-returns
 returns c =
     let s = c .before .before .before .before in
     let v = s .pre .0 in
-    ends-read (v .ranked) (lower-lent v (s .good .0) .lines) (c .before .before .before .bottom-line .ensures)
+    ends-read (v .ranked) (lines-count v (s .good .0)) (c .before .before .before .bottom-line .ensures)
     (c .before .before .top-line .ensures ∙ ap (topLine (graphIn (s .args .graph))) (s .pre .1 .cables)) (c .before .one-if .ensures) (c .one-if2 .ensures)
 
 pub ends-of-spec : {M : Type 1} → statement M

@@ -2,23 +2,31 @@
 use native.Mathlib.Omega.{arith}
 use Prim.Native.Nat.{_≤_, _-_}
 use mathlib.Core.Path.{_∙_}
-use lib.ListN.{length}
+use lib.ListN.{take}
 use Rattle.lists.proofs.Fill.{Filled, filled-none, filled-more, filled-take}
+use Rattle.order.specs.Ranking.{rankNumbers}
 use Rattle.layout.specs.Placements.{cableBy}
+use Rattle.layout.proofs.Lengths.{rank-read}
 use Rattle.layout.proofs.placing.cables_after.Statement.{statement}
 use Rattle.layout.proofs.placing.cables_after.Tie as tie
 
 abbrev Inv-loop : tie.InvT-loop
-Inv-loop lower k placement next₀ i₀ next i = (i ≤ length lower) × Filled (cableBy lower k placement next₀) 0 i next₀ next
+Inv-loop placement lower m rank next₀ i₀ next i = (i ≤ m) × Filled (cableBy (take m (rankNumbers lower)) rank placement next₀) 0 i next₀ next
 
 abbrev μ-loop : tie.MeasureT-loop
-μ-loop lower k placement next₀ i₀ next i = length lower - i
+μ-loop placement lower m rank next₀ i₀ next i = m - i
+
+number-requires : tie.Need-number-requires Inv-loop μ-loop
+number-requires c κs = tt
 
 loop-holds : tie.Need-loop-holds Inv-loop μ-loop
 loop-holds c = (omega arith, filled-none _ 0 _)
 
-rank-at-requires : tie.Need-rank-at-requires Inv-loop μ-loop
-rank-at-requires c κs = omega arith
+array-copy-out-number : tie.Need-array-copy-out-number Inv-loop μ-loop
+array-copy-out-number c = omega arith
+
+number-requires-2 : tie.Need-number-requires-2 Inv-loop μ-loop
+number-requires-2 c κs = tt
 
 mul-cable-column : tie.Need-mul-cable-column Inv-loop μ-loop
 mul-cable-column c = omega arith
@@ -28,9 +36,9 @@ array-read-cable-column c = omega arith
 
 cable-column-requires : tie.Need-cable-column-requires Inv-loop μ-loop
 cable-column-requires c κs =
-    let s = c .before .before .before .before in
-    let l = c .before .before .loop in
-    (s .pre .0, omega (arith, l .inv .1 .rest (l .i) (omega arith), s .pre .1 .1 (l .i) (omega arith)))
+    let s = c .before .before .before .before .before .before in
+    let l = c .before .before .before .loop in
+    (s .pre .1 .0, omega (arith, l .inv .1 .rest (l .i) (omega arith), s .pre .1 .1 (l .i) (omega arith)))
 
 mul-next : tie.Need-mul-next Inv-loop μ-loop
 mul-next c = omega arith
@@ -46,12 +54,14 @@ loop-less c = omega arith
 
 loop-again : tie.Need-loop-again Inv-loop μ-loop
 loop-again c =
-    let l = c .before .before .before .loop in
+    let l = c .before .before .before .before .loop in
+    let g = c .before .before .before .before .before .before .before .args .graph in
     let kept = l .inv .1 .rest (l .i) (omega arith) in
-    (omega arith, filled-more _ 0 (c .cable-column .result) (omega arith) (c .cable-column .ensures ∙ rw (c .before .rank-at .ensures, kept)) (l .inv .1))
+    let lower = c .before .number2 .ensures ∙ rank-read (g .cables) (g .lower) (l .i) (omega arith) in
+    (omega arith, filled-more _ 0 (c .cable-column .result) (omega arith) (c .cable-column .ensures ∙ rw (lower, kept)) (l .inv .1))
 
 returns : tie.Need-returns Inv-loop μ-loop
-returns c = filled-take _ 0 _ (c .loop-test .left) (omega arith) (c .before .loop .inv .1)
+returns c = filled-take _ 0 _ (c .loop-test .left) (omega arith) (rw (c .before .before .number .ensures) at (c .before .loop .inv .1))
 
 pub cables-after-spec : {M : Type 1} → statement M
 cables-after-spec =
@@ -59,8 +69,10 @@ cables-after-spec =
     (tie.spec
     Inv-loop
     μ-loop
+    number-requires
     loop-holds
-    rank-at-requires
+    array-copy-out-number
+    number-requires-2
     mul-cable-column
     array-read-cable-column
     cable-column-requires

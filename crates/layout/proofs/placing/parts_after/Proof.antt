@@ -1,6 +1,7 @@
 -- The parts below i are moved. Assumes nothing.
 use native.Mathlib.Omega.{arith}
 use native.Mathlib.Numerals.{add-one}
+use borrow.Author.Needs.{needs}
 use Prim.Native.Nat.{ℕ, _+_, _≤_, _-_}
 use mathlib.Core.Path.{ap, _∙_}
 use mathlib.Core.List.{List, [], _∷_, _++_}
@@ -12,10 +13,16 @@ use Rattle.layout.proofs.placing.parts_after.Statement.{statement}
 use Rattle.layout.proofs.placing.parts_after.Tie as tie
 
 abbrev Inv-loop : tie.InvT-loop
-Inv-loop placement k next₀ i₀ next i = (i ≤ k) × Filled (λ j. movedBy placement (getD next₀ j 0)) 0 i next₀ next
+Inv-loop placement rank next₀ i₀ next i = (i ≤ rank) × Filled (λ j. movedBy placement (getD next₀ j 0)) 0 i next₀ next
 
 abbrev μ-loop : tie.MeasureT-loop
-μ-loop placement k next₀ i₀ next i = k - i
+μ-loop placement rank next₀ i₀ next i = rank - i
+
+number-requires : tie.Need-number-requires Inv-loop μ-loop
+number-requires c κs = tt
+
+cast-rank : tie.Need-cast-rank Inv-loop μ-loop
+cast-rank c = search needs
 
 loop-holds : tie.Need-loop-holds Inv-loop μ-loop
 loop-holds c = (omega arith, filled-none _ 0 _)
@@ -28,9 +35,9 @@ array-read-moved c = omega arith
 
 moved-requires : tie.Need-moved-requires Inv-loop μ-loop
 moved-requires c κs =
-    let s = c .before .before in
+    let s = c .before .before .before in
     let l = c .before .loop in
-    omega (arith, l .inv .1 .rest (l .i) (omega arith), s .pre .1 .1 (l .i) (c .loop-test .taken), s .pre .0)
+    omega (arith, l .inv .1 .rest (l .i) (omega arith), s .pre .1 .1 (l .i) (omega arith), s .pre .0)
 
 mul-next : tie.Need-mul-next Inv-loop μ-loop
 mul-next c = omega arith
@@ -46,7 +53,7 @@ loop-less c = omega arith
 
 loop-again : tie.Need-loop-again Inv-loop μ-loop
 loop-again c =
-    let s = c .before .before .before in
+    let s = c .before .before .before .before in
     let l = c .before .before .loop in
     let e = c .moved .ensures ∙ ap (movedBy (s .args .placement)) (l .inv .1 .rest (l .i) (omega arith)) in
     (omega arith, filled-more _ 0 (c .moved .result) (omega arith) e (l .inv .1))
@@ -63,11 +70,11 @@ array-write-next-2 c = omega arith
 returns : tie.Need-returns Inv-loop μ-loop
 returns c =
     let l = c .before .before .loop in
-    let s = c .before .before .before .args in
+    let s = c .before .before .before .before .args in
     let v = s .placement .column + s .placement .left in
-    rw add-one
-    (take-suc-set (l .next) (s .k) v (omega arith)
-    ∙ ap (λ (x : List ℕ). x ++ v ∷ []) (filled-map (movedBy (s .placement)) 0 (l .i) (s .k) (s .parts) (l .next) (omega arith) (omega arith) (l .inv .1)))
+    rw (add-one, c .before .before .before .number .ensures)
+    (take-suc-set (l .next) (s .k .0) v (omega arith)
+    ∙ ap (λ (x : List ℕ). x ++ v ∷ []) (filled-map (movedBy (s .placement)) 0 (l .i) (s .k .0) (s .parts) (l .next) (omega arith) (omega arith) (l .inv .1)))
 
 pub parts-after-spec : {M : Type 1} → statement M
 parts-after-spec =
@@ -75,6 +82,8 @@ parts-after-spec =
     (tie.spec
     Inv-loop
     μ-loop
+    number-requires
+    cast-rank
     loop-holds
     mul-moved
     array-read-moved

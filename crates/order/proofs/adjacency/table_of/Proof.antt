@@ -1,6 +1,7 @@
 -- `order::adjacency::table_of` meets its contract. The loop's invariant is `TableUpTo`. Assumes nothing.
 use Prim.Native.Nat.{_-_}
 use borrow.Author.Needs.{needs}
+use Rattle.station.proofs.Passed.{wired-words}
 use Rattle.order.proofs.AdjacencyTable.{TableUpTo, table-start, line-word, first-fits, second-fits, table-next, table-end}
 use Rattle.order.proofs.adjacency.table_of.Statement.{statement}
 use Rattle.order.proofs.adjacency.table_of.Tie as tie
@@ -12,7 +13,7 @@ abbrev μ-loop : tie.MeasureT-loop
 μ-loop list m table₀ line₀ table line = m - line
 
 cable-count-requires : tie.Need-cable-count-requires Inv-loop μ-loop
-cable-count-requires c κs = search needs
+cable-count-requires c κs = search (wired-words, needs)
 
 loop-holds : tie.Need-loop-holds Inv-loop μ-loop
 loop-holds c = search (table-start, needs)

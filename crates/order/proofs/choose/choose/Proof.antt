@@ -3,6 +3,7 @@ use Prim.Native.Nat.{_-_}
 use borrow.Author.Needs.{needs}
 use Rattle.lists.proofs.Seeking.{Seeking, seeking-start}
 use Rattle.order.specs.Tables.{Witnesses, eligible}
+use Rattle.station.proofs.Passed.{wired-words}
 use Rattle.order.proofs.PartsByRank.{chosen-next, chosen-at, chosen-none}
 use Rattle.order.proofs.choose.choose.Statement.{statement}
 use Rattle.order.proofs.choose.choose.Tie as tie
@@ -14,7 +15,7 @@ abbrev μ-loop : tie.MeasureT-loop
 μ-loop list table unranked witness₀ n w₀ witness w = n - w
 
 part-count-requires : tie.Need-part-count-requires Inv-loop μ-loop
-part-count-requires c κs = search needs
+part-count-requires c κs = search (wired-words, needs)
 
 loop-holds : tie.Need-loop-holds Inv-loop μ-loop
 loop-holds c = (seeking-start _ _, search needs)
@@ -41,7 +42,7 @@ loop-again : tie.Need-loop-again Inv-loop μ-loop
 loop-again c = (search (chosen-next, needs), search needs)
 
 analyser-requires : tie.Need-analyser-requires Inv-loop μ-loop
-analyser-requires c κs = search needs
+analyser-requires c κs = search (wired-words, needs)
 
 returns-2 : tie.Need-returns-2 Inv-loop μ-loop
 returns-2 c = (search (chosen-none, needs), search needs)

@@ -1,12 +1,13 @@
 -- `order::choose::is_known_separator` meets its contract. Assumes nothing.
 use borrow.Author.Needs.{needs}
+use Rattle.station.proofs.Passed.{wired-words}
 use Rattle.order.proofs.Witnesses.{witness-below, witness-fits}
 use Rattle.order.proofs.Choices.{known-both, known-not}
 use Rattle.order.proofs.choose.is_known_separator.Statement.{statement}
 use Rattle.order.proofs.choose.is_known_separator.Tie as tie
 
 analyser-requires : tie.Need-analyser-requires
-analyser-requires c κs = search needs
+analyser-requires c κs = search (wired-words, needs)
 
 cast-t : tie.Need-cast-t
 cast-t c = search needs

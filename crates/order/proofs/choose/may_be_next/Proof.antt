@@ -1,5 +1,6 @@
 -- `order::choose::may_be_next` meets its contract. Assumes nothing.
 use borrow.Author.Needs.{needs}
+use Rattle.station.proofs.Passed.{wired-words}
 use Rattle.order.proofs.Choices.{next-ranked, next-end, next-known, next-open}
 use Rattle.order.proofs.choose.may_be_next.Statement.{statement}
 use Rattle.order.proofs.choose.may_be_next.Tie as tie
@@ -14,7 +15,7 @@ returns : tie.Need-returns
 returns c = search (next-ranked, needs)
 
 analyser-requires : tie.Need-analyser-requires
-analyser-requires c κs = search needs
+analyser-requires c κs = search (wired-words, needs)
 
 returns-2 : tie.Need-returns-2
 returns-2 c = search (next-end, needs)

@@ -1,21 +1,22 @@
 -- `order::choose::order_parts` meets its contract. The loop's invariant is `Ordering`: the parts ranked so far, and the rest of the order from the unranked parts. Assumes nothing.
 use Prim.Native.Nat.{_-_}
 use borrow.Author.Needs.{needs}
+use Rattle.station.proofs.Passed.{wired-words}
 use Rattle.order.proofs.PartsByRank.{Ordering, ordering-start, ordering-next, ordering-end, chosen-below}
 use Rattle.order.proofs.choose.order_parts.Statement.{statement}
 use Rattle.order.proofs.choose.order_parts.Tie as tie
 
 abbrev Inv-loop : tie.InvT-loop
-Inv-loop list table n s parts₀ witness₀ unranked₀ k₀ parts witness unranked k = Ordering list parts witness unranked k
+Inv-loop list table n part₀ witness₀ unranked₀ k₀ part witness unranked k = Ordering list part witness unranked k
 
 abbrev μ-loop : tie.MeasureT-loop
-μ-loop list table n s parts₀ witness₀ unranked₀ k₀ parts witness unranked k = n - k
+μ-loop list table n part₀ witness₀ unranked₀ k₀ part witness unranked k = n - k
 
 part-count-requires : tie.Need-part-count-requires Inv-loop μ-loop
-part-count-requires c κs = search needs
+part-count-requires c κs = search (wired-words, needs)
 
 source-requires : tie.Need-source-requires Inv-loop μ-loop
-source-requires c κs = search needs
+source-requires c κs = search (wired-words, needs)
 
 cast-unranked : tie.Need-cast-unranked Inv-loop μ-loop
 cast-unranked c = search needs
@@ -29,11 +30,11 @@ loop-holds c = search (ordering-start, needs)
 choose-requires : tie.Need-choose-requires Inv-loop μ-loop
 choose-requires c κs = search needs
 
-mul-parts : tie.Need-mul-parts Inv-loop μ-loop
-mul-parts c = search needs
+mul-part : tie.Need-mul-part Inv-loop μ-loop
+mul-part c = search needs
 
-array-write-parts : tie.Need-array-write-parts Inv-loop μ-loop
-array-write-parts c = search needs
+array-set-from-part : tie.Need-array-set-from-part Inv-loop μ-loop
+array-set-from-part c = search needs
 
 cast-unranked-2 : tie.Need-cast-unranked-2 Inv-loop μ-loop
 cast-unranked-2 c = search needs
@@ -65,8 +66,8 @@ order-parts-spec =
     array-write-unranked
     loop-holds
     choose-requires
-    mul-parts
-    array-write-parts
+    mul-part
+    array-set-from-part
     cast-unranked-2
     array-write-unranked-2
     add-k

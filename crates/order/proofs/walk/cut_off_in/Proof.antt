@@ -1,14 +1,15 @@
 -- `order::walk::cut_off_in` meets its contract. The walk's first part is cut off from t, or else the lowest part that the walk does not reach. Assumes nothing.
 use borrow.Author.Needs.{needs}
+use Rattle.station.proofs.Passed.{wired-words}
 use Rattle.order.proofs.Separation.{found-inside, found-fits, cut-none, cut-start, cut-other}
 use Rattle.order.proofs.walk.cut_off_in.Statement.{statement}
 use Rattle.order.proofs.walk.cut_off_in.Tie as tie
 
 part-count-requires : tie.Need-part-count-requires
-part-count-requires c κs = search needs
+part-count-requires c κs = search (wired-words, needs)
 
 analyser-requires : tie.Need-analyser-requires
-analyser-requires c κs = search needs
+analyser-requires c κs = search (wired-words, needs)
 
 cast-t : tie.Need-cast-t
 cast-t c = search needs

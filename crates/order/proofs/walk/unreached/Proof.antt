@@ -1,6 +1,6 @@
 -- `order::walk::unreached` meets its contract. The loop's invariant is `Walking`; each step takes one off the cable ends of what is left with the stack's height. Assumes nothing.
 use Prim.Native.Nat.{_+_}
-use lib.ListN.{getD, replicate, length-replicate}
+use lib.ListN.{getD, length-replicate}
 use borrow.Author.Needs.{needs}
 use Rattle.station.specs.Station.{stationOf}
 use Rattle.order.specs.Reach.{endsAt}

@@ -26,7 +26,7 @@ few : (c : tie.After-crossings-of Inv-loop μ-loop) → c .crossings-of .result 
 few c =
     let s = c .before .before .before in
     let b : c .crossings-of .result ≤ length (layoutIn (s .args .layout) .routes) = crossings-few _ _ _ (c .crossings-of .ensures) in
-    omega (arith, cable-count s, s .pre .given .cables)
+    omega (arith, cable-count s, s .pre .fits .cables)
 
 loop-holds : tie.Need-loop-holds Inv-loop μ-loop
 loop-holds c = (omega arith, omega arith, omega (arith, crossings-all (layoutIn (c .args .layout))))
@@ -35,10 +35,10 @@ crossings-of-requires : tie.Need-crossings-of-requires Inv-loop μ-loop
 crossings-of-requires c κs = (c .before .before .pre, omega arith)
 
 add-got : tie.Need-add-got Inv-loop μ-loop
-add-got c = omega (arith, few c, c .before .before .before .pre .given .cables)
+add-got c = omega (arith, few c, c .before .before .before .pre .fits .cables)
 
 add-i : tie.Need-add-i Inv-loop μ-loop
-add-i c = omega (arith, c .before .before .before .pre .given .cables)
+add-i c = omega (arith, c .before .before .before .pre .fits .cables)
 
 loop-less : tie.Need-loop-less Inv-loop μ-loop
 loop-less c = omega arith

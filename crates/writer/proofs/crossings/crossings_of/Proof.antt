@@ -11,7 +11,7 @@ use Rattle.drawing.specs.Drawing.{Route, routeAt, crossPair}
 use Rattle.layout.specs.declared.Layout.{Layout}
 use Rattle.writer.specs.Values.{layoutIn}
 use Rattle.writer.proofs.CrossingCounts.{count-next, count-end}
-use Rattle.writer.proofs.Layouts.{Room, route-count, cross-is}
+use Rattle.writer.proofs.Layouts.{AllPlaces, route-count, cross-is}
 use Rattle.writer.proofs.crossings.crossings_of.Statement.{statement}
 use Rattle.writer.proofs.crossings.crossings_of.Tie as tie
 
@@ -28,7 +28,7 @@ Inv-loop i layout m c got₀ j₀ got j = (i < j) × (j ≤ m) × (got < j) × (
 abbrev μ-loop : tie.MeasureT-loop
 μ-loop i layout m c got₀ j₀ got j = m - j
 
-room : (s : tie.Start Inv-loop μ-loop) → Room (s .args .t1)
+room : (s : tie.Start Inv-loop μ-loop) → AllPlaces (s .args .t1)
 room s = s .good .0 .1 .1 .0 .1 .1 .1 .1 .0 .1 .0 .1
 
 mul-c : tie.Need-mul-c Inv-loop μ-loop
@@ -55,11 +55,14 @@ cross-requires c κs = search needs
 one-if-requires : tie.Need-one-if-requires Inv-loop μ-loop
 one-if-requires c κs = search needs
 
+cast-got : tie.Need-cast-got Inv-loop μ-loop
+cast-got c = search needs
+
 add-got : tie.Need-add-got Inv-loop μ-loop
-add-got c = omega (arith, oneIf-le (c .before .cross .result), c .before .before .before .before .before .before .pre .0 .given .cables)
+add-got c = omega (arith, oneIf-le (c .before .cross .result), c .before .before .before .before .before .before .pre .0 .fits .cables)
 
 add-j-2 : tie.Need-add-j-2 Inv-loop μ-loop
-add-j-2 c = omega (arith, c .before .before .before .before .before .before .pre .0 .given .cables)
+add-j-2 c = omega (arith, c .before .before .before .before .before .before .pre .0 .fits .cables)
 
 loop-less : tie.Need-loop-less Inv-loop μ-loop
 loop-less c = omega arith
@@ -95,6 +98,7 @@ crossings-of-spec =
     element-copy-out-cross
     cross-requires
     one-if-requires
+    cast-got
     add-got
     add-j-2
     loop-less

@@ -1,11 +1,11 @@
 -- The law of the count, over the layout's own numbers. Assumes nothing.
 use native.Mathlib.Omega.{arith}
 use borrow.Author.Needs.{needs}
-use Rattle.writer.proofs.Layouts.{Room, word-count}
+use Rattle.writer.proofs.Layouts.{AllPlaces, word-count}
 use Rattle.writer.proofs.sheet.count_words.Statement.{statement}
 use Rattle.writer.proofs.sheet.count_words.Tie as tie
 
-room : (s : tie.Start) → Room (s .args .layout)
+room : (s : tie.Start) → AllPlaces (s .args .layout)
 room s = s .good .0 .1 .1 .0 .1 .1 .1 .1 .0 .1 .0 .1
 
 mul-result : tie.Need-mul-result

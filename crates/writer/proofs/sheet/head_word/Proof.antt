@@ -2,11 +2,11 @@
 use native.Mathlib.Omega.{arith}
 use borrow.Author.Needs.{needs}
 use Rattle.writer.proofs.Sections.{head-as}
-use Rattle.writer.proofs.Layouts.{Room, parts-few, width-is, height-is, width-small, height-small}
+use Rattle.writer.proofs.Layouts.{AllPlaces, parts-few, width-is, height-is, width-small, height-small}
 use Rattle.writer.proofs.sheet.head_word.Statement.{statement}
 use Rattle.writer.proofs.sheet.head_word.Tie as tie
 
-room : (s : tie.Start) → Room (s .args .layout)
+room : (s : tie.Start) → AllPlaces (s .args .layout)
 room s = s .good .0 .1 .1 .0 .1 .1 .1 .1 .0 .1 .0 .1
 
 cast-n : tie.Need-cast-n

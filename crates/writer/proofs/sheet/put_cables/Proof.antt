@@ -9,7 +9,7 @@ use Rattle.drawing.specs.Drawing.{routeAt}
 use Rattle.drawing.specs.Sheet.{routeWords, cablesSection}
 use Rattle.writer.specs.Values.{layoutIn}
 use Rattle.writer.proofs.Sections.{cablesFrom, cables-next, cables-end}
-use Rattle.writer.proofs.Layouts.{Room, route-count, course-small, route-is}
+use Rattle.writer.proofs.Layouts.{AllPlaces, route-count, course-small, route-is}
 use Rattle.writer.proofs.sheet.put_cables.Statement.{statement}
 use Rattle.writer.proofs.sheet.put_cables.Tie as tie
 
@@ -20,7 +20,7 @@ Inv-loop sheet₀ at layout m next₀ line₀ sheet next line =
 abbrev μ-loop : tie.MeasureT-loop
 μ-loop sheet₀ at layout m next₀ line₀ sheet next line = m - line
 
-room : (s : tie.Start Inv-loop μ-loop) → Room (s .args .t3)
+room : (s : tie.Start Inv-loop μ-loop) → AllPlaces (s .args .t3)
 room s = s .good .1 .1 .0 .1 .1 .0 .1 .1 .1 .1 .0 .1 .0 .1
 
 loop-holds : tie.Need-loop-holds Inv-loop μ-loop
@@ -28,13 +28,13 @@ unfolding cablesSection
 loop-holds c = (omega arith, storing-start _ _ _)
 
 cast-put-cable : tie.Need-cast-put-cable Inv-loop μ-loop
-cast-put-cable c = omega (arith, c .before .before .before .before .pre .0 .given .cables)
+cast-put-cable c = omega (arith, c .before .before .before .before .pre .0 .fits .cables)
 
 mul-put-cable : tie.Need-mul-put-cable Inv-loop μ-loop
-mul-put-cable c = omega (arith, c .before .before .before .before .pre .0 .given .cables)
+mul-put-cable c = omega (arith, c .before .before .before .before .pre .0 .fits .cables)
 
 element-copy-out-put-cable : tie.Need-element-copy-out-put-cable Inv-loop μ-loop
-element-copy-out-put-cable c = omega (arith, c .before .before .before .before .pre .0 .given .cables)
+element-copy-out-put-cable c = omega (arith, c .before .before .before .before .pre .0 .fits .cables)
 
 put-cable-requires : tie.Need-put-cable-requires Inv-loop μ-loop
 put-cable-requires c κs =
@@ -53,7 +53,7 @@ put-cable-requires c κs =
     )
 
 add-line : tie.Need-add-line Inv-loop μ-loop
-add-line c = omega (arith, c .before .before .before .before .before .before .before .before .pre .0 .given .cables)
+add-line c = omega (arith, c .before .before .before .before .before .before .before .before .pre .0 .fits .cables)
 
 loop-less : tie.Need-loop-less Inv-loop μ-loop
 loop-less c = omega arith

@@ -26,7 +26,7 @@ unfolding partsSection
 loop-holds c = (omega arith, storing-start _ _ _)
 
 element-copy-out-part-word : tie.Need-element-copy-out-part-word Inv-loop μ-loop
-element-copy-out-part-word c = omega (arith, c .before .before .before .before .pre .0 .given .most)
+element-copy-out-part-word c = omega (arith, c .before .before .before .before .pre .0 .fits .most)
 
 part-word-requires : tie.Need-part-word-requires Inv-loop μ-loop
 part-word-requires c κs =
@@ -42,7 +42,7 @@ put-requires c κs =
     omega (arith, l .inv .1 .place, storing-kept (l .inv .1), s .pre .1 .1, parts-length d, n, ap length (parts-next d (l .p) (omega (arith, n, c .before .before .before .loop-test .taken))))
 
 add-p : tie.Need-add-p Inv-loop μ-loop
-add-p c = omega (arith, c .before .before .before .before .before .before .before .before .before .pre .0 .given .most)
+add-p c = omega (arith, c .before .before .before .before .before .before .before .before .before .pre .0 .fits .most)
 
 loop-less : tie.Need-loop-less Inv-loop μ-loop
 loop-less c = omega arith

@@ -1,22 +1,21 @@
--- A list that passes checks 1 to 8 has what this crate's code asks for: at most four neighbours of each part, by line. Assumes nothing.
+-- The neighbours of a part, by line, are as many as its cables. Assumes nothing.
 use Prim.Native.Nat.{ℕ, suc, _+_, _<_, _≤_}
 use native.Mathlib.Omega.{arith}
-use native.Mathlib.Decide.{decLt}
-use mathlib.Core.Path.{_≡_, refl, sym, ap, _∙_}
+use mathlib.Core.Path.{_≡_, refl, sym, _∙_}
 use mathlib.Core.Bool.{Bool, true, false, _||_}
 use mathlib.Core.List.{List, [], _∷_}
-use lib.ListN.{length, getD, List·getD-eq-default}
+use lib.ListN.{length, getD}
 use lib.Dec.{eqb}
 use borrow.Author.Tests.{eqb-true, ne-eqb}
+use Rattle.words.specs.Limits.{mostDegree}
 use Rattle.lists.specs.Select.{consIf, oneIf, count}
 use Rattle.lists.proofs.Filters.{length-consIf}
-use Rattle.station.specs.Station.{Cable, stationOf, cableOf, joins, degree, noCable}
+use Rattle.station.specs.Station.{Cable, Station, joins, degree, noCable}
 use Rattle.station.specs.Checks.{Clear, listChecks}
 use Rattle.station.specs.Code.{Wired}
 use Rattle.station.proofs.Passed.{wired, wired-words}
 use Rattle.order.specs.Reach.{neighbours}
 use Rattle.order.specs.Checks.{allChecks}
-use Rattle.order.specs.Tables.{Drawable}
 use Rattle.order.proofs.Passed.{list-wired}
 
 -- a cable between different parts has p at one end at most
@@ -37,28 +36,13 @@ neighbours-degree (c ∷ cs) p l =
       neighbours-degree cs p (λ i h. l (suc i) (omega arith)),
     )
 
-module _ (list : List ℕ) (W : Wired (stationOf list)) where
-  pub drawable : Drawable list
-  drawable =
-      record {
-        words = wired-words list W;
-        least = W .least;
-        most = W .most;
-        source = W .source;
-        analyser = W .analyser;
-        one = W .one;
-        other = W .other;
-        few = λ p. omega (arith, neighbours-degree (stationOf list .cables) p (W .loopless), W .degrees p);
-      }
+-- a part of a station that passes checks 1 to 8 has at most four neighbours
+pub neighbours-few : {st : Station} → Wired st → (p : ℕ) → length (neighbours (st .cables) p) ≤ mostDegree
+neighbours-few {st} W p = omega (arith, neighbours-degree (st .cables) p (W .loopless), W .degrees p)
 
-pub drawable8 : (list : List ℕ) → Clear listChecks list → Drawable list
-drawable8 list e = drawable list (wired list e)
+-- the list has its head and its ends
+pub words-8 : (list : List ℕ) → Clear listChecks list → 2 ≤ length list
+words-8 list e = wired-words list (wired list e)
 
-pub words8 : (list : List ℕ) → Clear listChecks list → 2 ≤ length list
-words8 list e = drawable8 list e .words
-
-pub drawable10 : (list : List ℕ) → Clear allChecks list → Drawable list
-drawable10 list e = drawable list (list-wired list e)
-
-pub words10 : (list : List ℕ) → Clear allChecks list → 2 ≤ length list
-words10 list e = drawable10 list e .words
+pub words-10 : (list : List ℕ) → Clear allChecks list → 2 ≤ length list
+words-10 list e = wired-words list (list-wired list e)

@@ -1,0 +1,12 @@
+-- The definitions that worked examples compute with, opened together: an example names `drawing-computing` on its unfolding line. Assumes nothing.
+use Rattle.drawing.specs.Spots.{sameSpot}
+use Rattle.drawing.specs.Lines.{point}
+use Rattle.drawing.specs.Crossing.{between, meetingSpot, runsCross, crossesOver, linesCross}
+use Rattle.drawing.specs.Drawing.{spotOf, routePoints, routeAt, shareEnd, crossPair, crossingsOf, crossings, renumbered}
+use Rattle.drawing.specs.Sheet.{partSpotWord, cornerSpotWord, routeWords, routesWords, headSection, partsSection, cablesSection, sheetWords}
+use Rattle.drawing.specs.Reading.{wordSpot, routesIn, drawingIn}
+use Rattle.lists.proofs.Computing.{lists-computing}
+
+unfoldable pub drawing-computing : Unit {0}
+unfolding lists-computing sameSpot point between meetingSpot runsCross crossesOver linesCross spotOf routePoints routeAt shareEnd crossPair crossingsOf crossings renumbered partSpotWord cornerSpotWord routeWords routesWords headSection partsSection cablesSection sheetWords wordSpot routesIn drawingIn
+drawing-computing = tt
