@@ -11,15 +11,12 @@ use Rattle.station.specs.Station.{stationOf}
 use Rattle.order.specs.Reach.{connected}
 use Rattle.order.specs.Order.{order}
 use Rattle.order.proofs.Triangle.{triangle}
-use Rattle.drawing.specs.Spots.{Spot}
+use Rattle.drawing.specs.Spots.{spotAt}
 use Rattle.drawing.specs.Drawing.{Drawing, routeAt, crossings}
 use Rattle.hookup.specs.Drawing.{drawing}
 use Rattle.drawing.specs.Sheet.{sheetWords}
 use Rattle.hookup.specs.Outcome.{drawn, sentBack, outcome}
 use Rattle.hookup.proofs.Computing.{hookup-computing}
-
-abbrev at : ℕ → ℕ → Spot
-at x y = record { x = x; y = y }
 
 abbrev pub square : List ℕ
 square = 0x10040004 ∷ 0x20000002 ∷ 0x30000001 ∷ 0x30001002 ∷ 0x30002003 ∷ 0x30003000 ∷ []
@@ -75,8 +72,8 @@ pub record Table : Type 0 where
       (0x40001002 ∷ 0x50000000 ∷ 0x50000001 ∷ 0x50000002 ∷ 0x60000000 ∷ 0x60001000 ∷ 0x60002002 ∷ 0x70001000 ∷ 0x70001002 ∷ [])
       0
   b-order : order (stationOf square) ≡ 0 ∷ 1 ∷ 3 ∷ 2 ∷ []
-  b-line-2 : routeAt (drawingOfList square) 2 .corners ≡ at 1 3 ∷ []
-  b-line-3 : routeAt (drawingOfList square) 3 .corners ≡ at 1 0 ∷ []
+  b-line-2 : routeAt (drawingOfList square) 2 .corners ≡ spotAt 1 3 ∷ []
+  b-line-3 : routeAt (drawingOfList square) 3 .corners ≡ spotAt 1 0 ∷ []
   c-order : order (stationOf stationC) ≡ 0 ∷ 3 ∷ 1 ∷ 2 ∷ []
   -- 'Part 1 can't be second: 2 and 3 would be left unjoined.'
   c-left : connected (stationOf stationC .cables) (2 ∷ 3 ∷ []) ≡ false
@@ -85,8 +82,8 @@ pub record Table : Type 0 where
   d-corners : count (λ w. eqb (kindOf w) corner) (sheetWords (drawingOfList stationD)) ≡ 14
   d-words : length (sheetWords (drawingOfList stationD)) ≡ 30
   d-crossings : crossings (drawingOfList stationD) ≡ 3
-  d-parts : drawingOfList stationD .parts ≡ at 4 1 ∷ at 2 2 ∷ at 1 3 ∷ at 2 4 ∷ at 2 5 ∷ []
-  d-line-3 : routeAt (drawingOfList stationD) 3 .corners ≡ at 4 0 ∷ at 6 0 ∷ at 6 6 ∷ at 2 6 ∷ []
+  d-parts : drawingOfList stationD .parts ≡ spotAt 4 1 ∷ spotAt 2 2 ∷ spotAt 1 3 ∷ spotAt 2 4 ∷ spotAt 2 5 ∷ []
+  d-line-3 : routeAt (drawingOfList stationD) 3 .corners ≡ spotAt 4 0 ∷ spotAt 6 0 ∷ spotAt 6 6 ∷ spotAt 2 6 ∷ []
   -- B, C and D pass every check: an output of their words takes them, and one of a word less does not
   b-drawn :
       outcome square 11

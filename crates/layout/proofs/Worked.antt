@@ -10,12 +10,9 @@ use Rattle.lists.specs.Select.{upFrom, range, tabulate, filter}
 use Rattle.lists.proofs.Select.{getD-mem}
 use Rattle.order.specs.Graph.{StGraph, lower, upper, linesAt, Ranked}
 use Rattle.layout.proofs.Step.{linesAt-e}
-use Rattle.drawing.specs.Spots.{Spot}
+use Rattle.drawing.specs.Spots.{Spot, spotAt}
 use Rattle.layout.specs.Points.{cornersOf, rankSpot, courseOf}
 use Rattle.layout.proofs.Computing.{layout-computing}
-
-abbrev at : ℕ → ℕ → Spot
-at x y = record { x = x; y = y }
 
 -- the spots of the ranks, and the corners of the cable at a line
 abbrev spots : StGraph → List Spot
@@ -34,14 +31,14 @@ abbrev pub d : StGraph
 d = record { parts = 5; lowers = 0 ∷ 0 ∷ 0 ∷ 0 ∷ 1 ∷ 1 ∷ 1 ∷ 2 ∷ 2 ∷ 3 ∷ []; uppers = 1 ∷ 2 ∷ 3 ∷ 4 ∷ 2 ∷ 3 ∷ 4 ∷ 3 ∷ 4 ∷ 4 ∷ [] }
 
 record Worked : Type 0 where
-  b-line-2 : corners b 2 ≡ at 1 3 ∷ []
-  b-line-3 : corners b 3 ≡ at 1 0 ∷ []
-  c-spots : spots c ≡ at 1 0 ∷ at 0 1 ∷ at 0 2 ∷ at 0 3 ∷ []
-  c-line-0 : corners c 0 ≡ at 1 2 ∷ []
-  c-line-1 : corners c 1 ≡ at 0 0 ∷ []
-  c-line-4 : corners c 4 ≡ at 2 0 ∷ at 2 3 ∷ []
-  d-spots : spots d ≡ at 4 1 ∷ at 2 2 ∷ at 1 3 ∷ at 2 4 ∷ at 2 5 ∷ []
-  d-line-3 : corners d 3 ≡ at 4 0 ∷ at 6 0 ∷ at 6 6 ∷ at 2 6 ∷ []
+  b-line-2 : corners b 2 ≡ spotAt 1 3 ∷ []
+  b-line-3 : corners b 3 ≡ spotAt 1 0 ∷ []
+  c-spots : spots c ≡ spotAt 1 0 ∷ spotAt 0 1 ∷ spotAt 0 2 ∷ spotAt 0 3 ∷ []
+  c-line-0 : corners c 0 ≡ spotAt 1 2 ∷ []
+  c-line-1 : corners c 1 ≡ spotAt 0 0 ∷ []
+  c-line-4 : corners c 4 ≡ spotAt 2 0 ∷ spotAt 2 3 ∷ []
+  d-spots : spots d ≡ spotAt 4 1 ∷ spotAt 2 2 ∷ spotAt 1 3 ∷ spotAt 2 4 ∷ spotAt 2 5 ∷ []
+  d-line-3 : corners d 3 ≡ spotAt 4 0 ∷ spotAt 6 0 ∷ spotAt 6 6 ∷ spotAt 2 6 ∷ []
 
 worked : Worked
 unfolding layout-computing

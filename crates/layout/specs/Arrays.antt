@@ -1,7 +1,7 @@
 -- How the code's structs of a layout read in the definitions. Assumes nothing.
 use Prim.Native.Nat.{ℕ, _<_, _≤_}
 use mathlib.Core.Path.{_≡_}
-use lib.ListN.{getD, take}
+use lib.ListN.{getD}
 use Rattle.words.specs.Limits.{mostParts, mostCables}
 use Rattle.order.specs.Graph.{Ranked}
 use Rattle.order.specs.Arrays.{graphIn}
@@ -9,7 +9,7 @@ use Rattle.order.specs.declared.Graph.{Graph}
 use Rattle.drawing.specs.Spots.{spotIn}
 use Rattle.layout.specs.declared.Course as code-course
 use Rattle.layout.specs.declared.Layout.{Layout}
-use Rattle.layout.specs.Columns.{columns}
+use Rattle.layout.specs.Placements.{ColumnsOf}
 use Rattle.layout.specs.Points.{Course, bottomRows, topRows, courseOf}
 
 abbrev pub courseIn : code-course.Course → Course
@@ -29,7 +29,7 @@ pub record GraphFits (g : Graph) : Type 0 where
 -- l is the layout of its graph
 pub record IsLayout (l : Layout) : Type 0 where
   pub fits : GraphFits (l .graph)
-  pub parts : take (l .graph .parts) (l .columns .parts) ≡ columns (graphIn (l .graph)) (l .graph .parts) .parts
+  pub columns : ColumnsOf (l .graph) (l .graph .parts) (l .columns)
   pub bottom : l .«bottom_rows» ≡ bottomRows (graphIn (l .graph))
   pub top : l .«top_rows» ≡ topRows (graphIn (l .graph))
   pub courses : (i : ℕ) → i < l .graph .cables → courseIn (getD (l .courses) i noCourse) ≡ courseOf (graphIn (l .graph)) i

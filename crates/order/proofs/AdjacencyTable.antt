@@ -9,7 +9,7 @@ use lib.ListN.{length, getD, take, drop, set, replicate, length-append, length-s
 use lib.Seq.{getD-set-same, getD-set-other, getD-take, getD-drop, drop-set-add, take-suc-set, length-take-le, drop-cons}
 use lib.Dec.{eqb}
 use borrow.Author.Tests.{eq-eqb, ne-eqb}
-use Rattle.words.specs.Limits.{adjacencyPlaces, mostParts, neighbourPlaces}
+use Rattle.words.specs.Limits.{adjacencyPlaces, mostDegree, mostParts, neighbourPlaces}
 use Rattle.lists.specs.Select.{consIf}
 use Rattle.lists.proofs.Slices.{slice-set-before, slice-set-behind, replicate-below}
 use Rattle.station.specs.Station.{Station, stationOf, noCable}
@@ -25,11 +25,11 @@ use Rattle.order.proofs.Neighbours.{neighbours-few}
 module _ {table : List ℕ} {p : ℕ} (F : TableFits table) (h : p < mostParts) where
   pub neighbours-length : length (neighboursIn table p) ≡ getD table (neighbourPlaces + p) 0
   unfolding neighboursIn
-  neighbours-length = length-take-le (getD table (neighbourPlaces + p) 0) (drop (4 * p) table) (omega (arith, length-drop (4 * p) table, F .few p, F .places))
+  neighbours-length = length-take-le (getD table (neighbourPlaces + p) 0) (drop (mostDegree * p) table) (omega (arith, length-drop (mostDegree * p) table, F .few p, F .places))
 
-  pub neighbours-at : (j : ℕ) → j < getD table (neighbourPlaces + p) 0 → getD (neighboursIn table p) j 0 ≡ getD table (4 * p + j) 0
+  pub neighbours-at : (j : ℕ) → j < getD table (neighbourPlaces + p) 0 → getD (neighboursIn table p) j 0 ≡ getD table (mostDegree * p + j) 0
   unfolding neighboursIn
-  neighbours-at j g = getD-take (getD table (neighbourPlaces + p) 0) (drop (4 * p) table) j 0 g ∙ getD-drop (4 * p) table j 0
+  neighbours-at j g = getD-take (getD table (neighbourPlaces + p) 0) (drop (mostDegree * p) table) j 0 g ∙ getD-drop (mostDegree * p) table j 0
 
 -- a number of the table as an index
 pub entry-fits : {table : List ℕ} → TableFits table → (i : ℕ) → getD table i 0 < 2 ^ 64
@@ -47,18 +47,18 @@ module _ (table : List ℕ) (p q : ℕ) (A : Appendable table p q) where
   d = getD table (neighbourPlaces + p) 0
 
   joined : List ℕ
-  joined = set table (4 * p + d) q
+  joined = set table (mostDegree * p + d) q
 
   counted : List ℕ
   counted = set joined (neighbourPlaces + p) (d + 1)
 
   joined-degree : (x : ℕ) → getD joined (neighbourPlaces + x) 0 ≡ getD table (neighbourPlaces + x) 0
   unfolding joined d
-  joined-degree x = getD-set-other table (4 * p + getD table (neighbourPlaces + p) 0) (neighbourPlaces + x) q 0 (λ e. absurd (omega arith))
+  joined-degree x = getD-set-other table (mostDegree * p + getD table (neighbourPlaces + p) 0) (neighbourPlaces + x) q 0 (λ e. absurd (omega arith))
 
   own-degree : getD counted (neighbourPlaces + p) 0 ≡ d + 1
   unfolding counted joined
-  own-degree = getD-set-same joined (neighbourPlaces + p) (d + 1) 0 (omega (arith, length-set table (4 * p + d) q, A .formed .places))
+  own-degree = getD-set-same joined (neighbourPlaces + p) (d + 1) 0 (omega (arith, length-set table (mostDegree * p + d) q, A .formed .places))
 
   other-degree : (x : ℕ) → (x ≡ p → ⊥) → getD counted (neighbourPlaces + x) 0 ≡ getD table (neighbourPlaces + x) 0
   unfolding counted
@@ -70,39 +70,39 @@ module _ (table : List ℕ) (p q : ℕ) (A : Appendable table p q) where
       record {
         places = length-set joined (neighbourPlaces + p) _ ∙ length-set table _ q ∙ A .formed .places;
         few = λ x. few-at x (ℕ-discrete x p);
-        inside = λ i. inside-at i (ℕ-discrete i (neighbourPlaces + p)) (ℕ-discrete i (4 * p + d));
+        inside = λ i. inside-at i (ℕ-discrete i (neighbourPlaces + p)) (ℕ-discrete i (mostDegree * p + d));
       }
     where
-      few-at : (x : ℕ) → Dec (x ≡ p) → getD counted (neighbourPlaces + x) 0 ≤ 4
+      few-at : (x : ℕ) → Dec (x ≡ p) → getD counted (neighbourPlaces + x) 0 ≤ mostDegree
       few-at x (yes e) = rw e (omega (arith, own-degree))
       few-at x (no n) = omega (arith, other-degree x n, A .formed .few x)
 
-      inside-at : (i : ℕ) → Dec (i ≡ neighbourPlaces + p) → Dec (i ≡ 4 * p + d) → getD counted i 0 < mostParts
+      inside-at : (i : ℕ) → Dec (i ≡ neighbourPlaces + p) → Dec (i ≡ mostDegree * p + d) → getD counted i 0 < mostParts
       inside-at i (yes e) s = rw e (omega (arith, own-degree))
       inside-at i (no n) (yes e) =
-          rw (getD-set-other joined (neighbourPlaces + p) i (d + 1) 0 n, e, getD-set-same table (4 * p + d) q 0 (omega (arith, A .part, A .few, A .formed .places))) (A .neighbour)
-      inside-at i (no n) (no m) = rw (getD-set-other joined (neighbourPlaces + p) i (d + 1) 0 n, getD-set-other table (4 * p + d) i q 0 m) (A .formed .inside i)
+          rw (getD-set-other joined (neighbourPlaces + p) i (d + 1) 0 n, e, getD-set-same table (mostDegree * p + d) q 0 (omega (arith, A .part, A .few, A .formed .places))) (A .neighbour)
+      inside-at i (no n) (no m) = rw (getD-set-other joined (neighbourPlaces + p) i (d + 1) 0 n, getD-set-other table (mostDegree * p + d) i q 0 m) (A .formed .inside i)
 
   own : neighboursIn counted p ≡ neighboursIn table p ++ (q ∷ [])
   unfolding neighboursIn counted joined d
   own =
-      rw (own-degree, slice-set-behind joined (4 * p) (d + 1) (neighbourPlaces + p) (d + 1) (omega arith), add-one, drop-set-add (4 * p) table d q)
-      (take-suc-set (drop (4 * p) table) d q (omega (arith, length-drop (4 * p) table, A .formed .places)))
+      rw (own-degree, slice-set-behind joined (mostDegree * p) (d + 1) (neighbourPlaces + p) (d + 1) (omega arith), add-one, drop-set-add (mostDegree * p) table d q)
+      (take-suc-set (drop (mostDegree * p) table) d q (omega (arith, length-drop (mostDegree * p) table, A .formed .places)))
 
   rest : (x : ℕ) → (x ≡ p → ⊥) → neighboursIn counted x ≡ neighboursIn table x
   unfolding neighboursIn counted joined d
   rest x n = rw (other-degree x n) (go (decLt x mostParts) (decLt x p))
     where
-      go : Dec (x < mostParts) → Dec (x < p) → take (getD table (neighbourPlaces + x) 0) (drop (4 * x) counted) ≡ take (getD table (neighbourPlaces + x) 0) (drop (4 * x) table)
+      go : Dec (x < mostParts) → Dec (x < p) → take (getD table (neighbourPlaces + x) 0) (drop (mostDegree * x) counted) ≡ take (getD table (neighbourPlaces + x) 0) (drop (mostDegree * x) table)
       go (no m) s = rw (List·getD-eq-default table 0 {n = neighbourPlaces + x} (omega (arith, A .formed .places))) refl
       go (yes m) (yes l) =
-          slice-set-behind joined (4 * x) (getD table (neighbourPlaces + x) 0) (neighbourPlaces + p) (d + 1) (omega (arith, A .formed .few x))
-          ∙ slice-set-behind table (4 * x) (getD table (neighbourPlaces + x) 0) (4 * p + d) q (omega (arith, A .formed .few x))
+          slice-set-behind joined (mostDegree * x) (getD table (neighbourPlaces + x) 0) (neighbourPlaces + p) (d + 1) (omega (arith, A .formed .few x))
+          ∙ slice-set-behind table (mostDegree * x) (getD table (neighbourPlaces + x) 0) (mostDegree * p + d) q (omega (arith, A .formed .few x))
       go (yes m) (no l) =
-          slice-set-behind joined (4 * x) (getD table (neighbourPlaces + x) 0) (neighbourPlaces + p) (d + 1) (omega (arith, A .formed .few x))
-          ∙ slice-set-before table (4 * x) (getD table (neighbourPlaces + x) 0) (4 * p + d) q (omega arith)
+          slice-set-behind joined (mostDegree * x) (getD table (neighbourPlaces + x) 0) (neighbourPlaces + p) (d + 1) (omega (arith, A .formed .few x))
+          ∙ slice-set-before table (mostDegree * x) (getD table (neighbourPlaces + x) 0) (mostDegree * p + d) q (omega arith)
 
-  pub appended : Appended table (set (set table (4 * p + getD table (neighbourPlaces + p) 0) q) (neighbourPlaces + p) (getD table (neighbourPlaces + p) 0 + 1)) p q
+  pub appended : Appended table (set (set table (mostDegree * p + getD table (neighbourPlaces + p) 0) q) (neighbourPlaces + p) (getD table (neighbourPlaces + p) 0 + 1)) p q
   unfolding counted joined d
   appended = record { formed = formed; own = own; rest = rest }
 
@@ -127,10 +127,10 @@ module _ (list : List ℕ) (W : Wired (stationOf list)) where
     own-next : to-come a ≡ b ∷ later a
     own-next = step a ∙ rw (eq-eqb a a refl) refl
 
-    ahead-room : getD table (neighbourPlaces + a) 0 < 4
+    ahead-room : getD table (neighbourPlaces + a) 0 < mostDegree
     ahead-room =
         let whole : neighboursIn table a ++ (b ∷ later a) ≡ neighbours (stationOf list .cables) a = rw own-next at (A .by-line a) in
-        let len : length (neighboursIn table a ++ (b ∷ later a)) ≤ 4 = rw whole (neighbours-few W a) in
+        let len : length (neighboursIn table a ++ (b ∷ later a)) ≤ mostDegree = rw whole (neighbours-few W a) in
         omega (arith, length-append (neighboursIn table a) (b ∷ later a), neighbours-length (A .formed) h)
 
     ahead-next : {table′ : List ℕ} → Appended table table′ a b → Ahead list table′ later

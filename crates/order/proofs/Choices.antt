@@ -7,7 +7,7 @@ use mathlib.Core.List.{List}
 use lib.ListN.{length, getD, drop}
 use lib.Dec.{eqb}
 use borrow.Author.Tests.{eqb-false, eq-eqb, ne-eqb, not-true, not-false}
-use Rattle.words.specs.Limits.{mostParts, neighbourPlaces}
+use Rattle.words.specs.Limits.{mostDegree, mostParts, neighbourPlaces}
 use Rattle.lists.specs.declared.Found.{Found}
 use Rattle.lists.specs.declared.Found.the-variants.{At, Nothing}
 use Rattle.lists.specs.Search.{isFound}
@@ -29,7 +29,7 @@ pub record Bordering (table : List ℕ) (flags : List Bool) (w d j : ℕ) : Type
   pub formed : TableFits table
   pub inside : w < mostParts
   pub count : d ≡ getD table (neighbourPlaces + w) 0
-  pub few : d ≤ 4
+  pub few : d ≤ mostDegree
   pub place : j ≤ d
   pub rest : any (λ q. not (getD flags q false)) (drop j (neighboursIn table w)) ≡ bordering table flags w
 
@@ -38,22 +38,22 @@ unfolding bordering
 bordering-start flags {w} F h = record { formed = F; inside = h; count = refl; few = F .few w; place = omega arith; rest = refl }
 
 module _ {table : List ℕ} {flags : List Bool} {w d j : ℕ} (B : Bordering table flags w d j) where
-  pub neighbour-below : getD table (4 * w + j) 0 < mostParts
-  neighbour-below = B .formed .inside (4 * w + j)
+  pub neighbour-below : getD table (mostDegree * w + j) 0 < mostParts
+  neighbour-below = B .formed .inside (mostDegree * w + j)
 
-  pub neighbour-fits : getD table (4 * w + j) 0 < 2 ^ 64
+  pub neighbour-fits : getD table (mostDegree * w + j) 0 < 2 ^ 64
   neighbour-fits = omega (arith, neighbour-below)
 
   length-is : length (neighboursIn table w) ≡ d
   length-is = neighbours-length (B .formed) (B .inside) ∙ sym (B .count)
 
-  at-place : j < d → (b : Bool) → not (getD flags (getD table (4 * w + j) 0) false) ≡ b → not (getD flags (getD (neighboursIn table w) j 0) false) ≡ b
+  at-place : j < d → (b : Bool) → not (getD flags (getD table (mostDegree * w + j) 0) false) ≡ b → not (getD flags (getD (neighboursIn table w) j 0) false) ≡ b
   at-place g b e = ap (λ (q : ℕ). not (getD flags q false)) (neighbours-at (B .formed) (B .inside) j (omega (arith, B .count))) ∙ e
 
-  pub bordering-here : j < d → not (getD flags (getD table (4 * w + j) 0) false) ≡ true → true ≡ bordering table flags w
+  pub bordering-here : j < d → not (getD flags (getD table (mostDegree * w + j) 0) false) ≡ true → true ≡ bordering table flags w
   bordering-here g e = sym (any-here (λ q. not (getD flags q false)) (neighboursIn table w) j 0 (omega (arith, length-is)) (at-place g true e)) ∙ B .rest
 
-  pub bordering-next : j < d → not (getD flags (getD table (4 * w + j) 0) false) ≡ false → Bordering table flags w d (j + 1)
+  pub bordering-next : j < d → not (getD flags (getD table (mostDegree * w + j) 0) false) ≡ false → Bordering table flags w d (j + 1)
   bordering-next g e =
       record {
         formed = B .formed;

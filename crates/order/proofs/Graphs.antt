@@ -6,6 +6,7 @@ use mathlib.Core.Bool.{true}
 use lib.ListN.{length}
 use lib.Dec.{eqb, ltb}
 use borrow.Author.Tests.{lt-ltb, le-ltb}
+use Rattle.words.specs.Limits.{mostDegree}
 use Rattle.lists.specs.Select.{range, count}
 use Rattle.lists.proofs.Select.{length-filter}
 use Rattle.lists.proofs.Sums.{count-none, count-all, count-key}
@@ -32,7 +33,7 @@ module _ (g : StGraph) (R : Ranked g) where
   below-all rank h = count-all (λ i. ltb (rank i) (g .parts)) (size g) (λ i l. lt-ltb (rank i) (g .parts) (h i l))
 
   -- the cable ends at the first k ranks, four at a rank
-  ends-le : (k : ℕ) → below (lower g) k + below (upper g) k ≤ 4 * k
+  ends-le : (k : ℕ) → below (lower g) k + below (upper g) k ≤ mostDegree * k
   ends-le zero = omega (arith, below-none (lower g), below-none (upper g))
   ends-le (suc k) = omega (arith, below-more (lower g) k, below-more (upper g) k, R .four k, ends-le k)
 

@@ -1,13 +1,13 @@
 -- The ranks of each cable's two parts, filled line by line from the rank of each part. Assumes nothing.
 use Prim.Native.Nat.{ℕ, _+_, _<_, _≤_, min, max}
 use native.Mathlib.Omega.{arith}
-use mathlib.Core.Path.{_≡_, refl, sym, ap, ap₂, _∙_}
+use mathlib.Core.Path.{_≡_, refl, sym, ap, ap₂, subst, _∙_}
 use mathlib.Core.List.{List}
-use lib.ListN.{length, getD, take, set, replicate, length-map, length-replicate, List·getD-map}
+use lib.ListN.{length, getD, take, set, replicate, length-replicate, List·getD-map}
 use lib.Seq.{ext-getD, getD-take, length-take-le}
 use Rattle.words.specs.Limits.{mostParts, mostCables}
 use Rattle.lists.proofs.Fill.{Filled, filled-none, filled-more}
-use Rattle.lists.proofs.Kept.{map-set}
+use Rattle.lists.proofs.Kept.{map-set, map-replicate}
 use Rattle.words.specs.declared.Rank.{Rank}
 use Rattle.station.specs.Station.{stationOf, noCable}
 use Rattle.station.specs.Checks.{Clear}
@@ -55,16 +55,17 @@ module _ (list : List ℕ) (pass : Clear allChecks list) where
 
 -- the numbers of an array as it is made
 pub blank : List ℕ
-blank = rankNumbers (replicate mostCables (record { 0 = 0 }))
+blank = replicate mostCables 0
 
 pub length-blank : length blank ≡ mostCables
-unfolding blank rankNumbers
-length-blank =
-    length-map (replicate mostCables (record { 0 = 0 })) (λ (k : Rank). k .0) ∙ length-replicate {A = Rank} mostCables (record { 0 = 0 })
-
-pub filled-blank : (f : ℕ → ℕ) → Filled f 0 0 blank (rankNumbers (replicate mostCables (record { 0 = 0 })))
 unfolding blank
-filled-blank f = filled-none f 0 (rankNumbers (replicate mostCables (record { 0 = 0 })))
+length-blank = length-replicate {A = ℕ} mostCables 0
+
+pub filled-blank : (f : ℕ → ℕ) (r : Rank) → r .0 ≡ 0 → Filled f 0 0 blank (rankNumbers (replicate mostCables r))
+unfolding blank rankNumbers
+filled-blank f r e =
+    subst (Filled f 0 0 (replicate mostCables 0)) (sym (map-replicate (λ (k : Rank). k .0) mostCables r ∙ ap (replicate mostCables) e))
+    (filled-none f 0 (replicate mostCables 0))
 
 -- a rank that is stored is its number among the numbers
 pub filled-rank : (f : ℕ → ℕ) {i : ℕ} (l : List Rank) (k : Rank) → i < length blank → k .0 ≡ f i → Filled f 0 i blank (rankNumbers l)

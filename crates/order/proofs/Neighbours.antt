@@ -11,12 +11,8 @@ use Rattle.words.specs.Limits.{mostDegree}
 use Rattle.lists.specs.Select.{consIf, oneIf, count}
 use Rattle.lists.proofs.Filters.{length-consIf}
 use Rattle.station.specs.Station.{Cable, Station, joins, degree, noCable}
-use Rattle.station.specs.Checks.{Clear, listChecks}
 use Rattle.station.specs.Code.{Wired}
-use Rattle.station.proofs.Passed.{wired, wired-words}
 use Rattle.order.specs.Reach.{neighbours}
-use Rattle.order.specs.Checks.{allChecks}
-use Rattle.order.proofs.Passed.{list-wired}
 
 -- a cable between different parts has p at one end at most
 one-end : (a b : Bool) → (a ≡ true → b ≡ false) → oneIf a + oneIf b ≡ oneIf (a || b)
@@ -39,10 +35,3 @@ neighbours-degree (c ∷ cs) p l =
 -- a part of a station that passes checks 1 to 8 has at most four neighbours
 pub neighbours-few : {st : Station} → Wired st → (p : ℕ) → length (neighbours (st .cables) p) ≤ mostDegree
 neighbours-few {st} W p = omega (arith, neighbours-degree (st .cables) p (W .loopless), W .degrees p)
-
--- the list has its head and its ends
-pub words-8 : (list : List ℕ) → Clear listChecks list → 2 ≤ length list
-words-8 list e = wired-words list (wired list e)
-
-pub words-10 : (list : List ℕ) → Clear allChecks list → 2 ≤ length list
-words-10 list e = wired-words list (list-wired list e)

@@ -9,7 +9,7 @@ use Rattle.station.specs.Station.{stationOf}
 use Rattle.station.specs.Checks.{Clear, listChecks}
 use Rattle.station.specs.Code.{Wired}
 use Rattle.station.proofs.FirstRefusal.{clear-each, clear-prefix, clear-rest}
-use Rattle.station.proofs.Passed.{wired, cables-most}
+use Rattle.station.proofs.Passed.{wired, wired-words, cables-most}
 use Rattle.order.specs.Reach.{check9, check10}
 use Rattle.order.specs.Checks.{stationChecks, allChecks}
 use Rattle.order.specs.Order.{order}
@@ -32,6 +32,13 @@ clear-10 list h = clear-each list stationChecks (clear-rest list listChecks stat
 pub clear-8 : (list : List ℕ) → Clear allChecks list → Clear listChecks list
 unfolding allChecks
 clear-8 list h = clear-prefix list listChecks stationChecks h
+
+-- the list has its head and its ends
+pub words-8 : (list : List ℕ) → Clear listChecks list → 2 ≤ length list
+words-8 list h = wired-words list (wired list h)
+
+pub words-10 : (list : List ℕ) → Clear allChecks list → 2 ≤ length list
+words-10 list h = words-8 list (clear-8 list h)
 
 module _ (list : List ℕ) (pass : Clear allChecks list) where
   pub list-wired : Wired (stationOf list)

@@ -8,6 +8,7 @@ use mathlib.Core.Bool.{Bool, true, _||_}
 use lib.ListN.{length, getD, length-map}
 use lib.Dec.{eqb}
 use borrow.Author.Tests.{eq-eqb, ne-eqb}
+use Rattle.words.specs.Limits.{mostDegree}
 use Rattle.lists.specs.Select.{range, oneIf, count}
 use Rattle.lists.proofs.Select.{getD-map, length-filter, indexOf-below, getD-indexOf, indexOf-getD}
 use Rattle.lists.proofs.Bools.{or-right}
@@ -207,11 +208,11 @@ module _ (st : Station) (H : Orderable st) where
   unfolding degree
   by-line p = count-places (joins p) (st .cables) noCable
 
-  four : (k : ℕ) → length (linesAt (size g) (lower g) k) + length (linesAt (size g) (upper g) k) ≤ 4
+  four : (k : ℕ) → length (linesAt (size g) (lower g) k) + length (linesAt (size g) (upper g) k) ≤ mostDegree
   unfolding linesAt
   four k = go (decLt k (st .parts))
     where
-      go : Dec (k < st .parts) → length (linesAt (size g) (lower g) k) + length (linesAt (size g) (upper g) k) ≤ 4
+      go : Dec (k < st .parts) → length (linesAt (size g) (lower g) k) + length (linesAt (size g) (upper g) k) ≤ mostDegree
       go (yes l) =
           rw (graph-size st)
           (omega (

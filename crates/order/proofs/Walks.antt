@@ -11,7 +11,7 @@ use lib.ListN.{length, getD, take, set, length-append, length-set}
 use lib.Seq.{take-suc, getD-set-same, getD-set-other, take-all}
 use lib.Dec.{eqb}
 use borrow.Author.Tests.{eq-eqb, ne-eqb}
-use Rattle.words.specs.Limits.{mostParts, neighbourPlaces, stackPlaces}
+use Rattle.words.specs.Limits.{mostDegree, mostParts, neighbourPlaces, stackPlaces}
 use Rattle.lists.specs.Select.{member, consIf, filter, without}
 use Rattle.lists.proofs.Select.{Distinct}
 use Rattle.lists.proofs.Filters.{without-absent}
@@ -35,7 +35,7 @@ module _ (cs : List Cable) where
       go (no n) below (inl e) = absurd (n e)
       go (no n) below (inr k) = rw (ne-eqb p x n) (omega (arith, below k))
 
-  pub ends-few : ((p : ℕ) → length (neighbours cs p) ≤ 4) → (l : List ℕ) → endsAt cs l ≤ 4 * length l
+  pub ends-few : ((p : ℕ) → length (neighbours cs p) ≤ mostDegree) → (l : List ℕ) → endsAt cs l ≤ mostDegree * length l
   unfolding endsAt
   ends-few few [] = omega arith
   ends-few few (x ∷ xs) = omega (arith, few x, ends-few few xs)
@@ -104,14 +104,14 @@ fromTop-pop stack (suc k) h = let e : suc k - 1 ≡ k = omega arith in rw e refl
 pub record Pushing (table : List ℕ) (p : ℕ) (stack₀ : List ℕ) (top : ℕ) (stack : List ℕ) (at j : ℕ) : Type 0 where
   pub formed : TableFits table
   pub inside : p < mostParts
-  pub few : getD table (neighbourPlaces + p) 0 ≤ 4
-  pub room : top + 4 ≤ length stack₀
+  pub few : getD table (neighbourPlaces + p) 0 ≤ mostDegree
+  pub room : top + mostDegree ≤ length stack₀
   pub places : length stack ≡ length stack₀
   pub rest : j ≤ getD table (neighbourPlaces + p) 0
   pub height : at + j ≡ top + getD table (neighbourPlaces + p) 0
   pub content : take j (neighboursIn table p) ++ fromTop stack at ≡ neighboursIn table p ++ fromTop stack₀ top
 
-pub pushing-start : {table stack : List ℕ} {p top : ℕ} → TableFits table → p < mostParts → length stack ≡ stackPlaces → top + 4 ≤ stackPlaces
+pub pushing-start : {table stack : List ℕ} {p top : ℕ} → TableFits table → p < mostParts → length stack ≡ stackPlaces → top + mostDegree ≤ stackPlaces
     → Pushing table p stack top stack top (getD table (neighbourPlaces + p) 0)
 pushing-start {table} {stack} {p} F h l r =
     record {
@@ -127,7 +127,7 @@ pushing-start {table} {stack} {p} F h l r =
 
 module _ {table stack₀ stack : List ℕ} {p top at : ℕ} where
   pub pushing-next : (j : ℕ) → Pushing table p stack₀ top stack at j → 0 < j
-      → Pushing table p stack₀ top (set stack at (getD table (4 * p + (j - 1)) 0)) (at + 1) (j - 1)
+      → Pushing table p stack₀ top (set stack at (getD table (mostDegree * p + (j - 1)) 0)) (at + 1) (j - 1)
   pushing-next zero P g = absurd (omega arith)
   pushing-next (suc j) P g =
       record {
@@ -142,7 +142,7 @@ module _ {table stack₀ stack : List ℕ} {p top at : ℕ} where
             let e : suc j - 1 ≡ j = omega arith in
             rw (
               e,
-              fromTop-push stack at (getD table (4 * p + j) 0) (omega (arith, P .places, P .room, P .height, P .few, P .rest)),
+              fromTop-push stack at (getD table (mostDegree * p + j) 0) (omega (arith, P .places, P .room, P .height, P .few, P .rest)),
               ← neighbours-at (P .formed) (P .inside) j (omega (arith, P .rest)),
               ← append-assoc (take j (neighboursIn table p)) (getD (neighboursIn table p) j 0 ∷ []) (fromTop stack at),
               ← take-suc (neighboursIn table p) j 0 (omega (arith, P .rest, neighbours-length (P .formed) (P .inside))),

@@ -4,6 +4,7 @@ use mathlib.Core.Path.{_≡_}
 use mathlib.Core.List.{List}
 use lib.ListN.{length, getD}
 use lib.Dec.{eqb}
+use Rattle.words.specs.Limits.{mostDegree}
 use Rattle.lists.specs.Select.{range, filter}
 
 -- An st-graph (source 000, section 2): the count of its parts, which are their ranks, and by line the ranks of each cable's lower and upper part.
@@ -34,4 +35,4 @@ pub record Ranked (g : StGraph) : Type 0 where
   pub inside : (i : ℕ) → i < size g → upper g i < g .parts
   pub entered : (k : ℕ) → 0 < k → k < g .parts → (i : ℕ) × (i < size g) × (upper g i ≡ k)
   pub continued : (k : ℕ) → suc k < g .parts → (i : ℕ) × (i < size g) × (lower g i ≡ k)
-  pub four : (k : ℕ) → length (linesAt (size g) (lower g) k) + length (linesAt (size g) (upper g) k) ≤ 4
+  pub four : (k : ℕ) → length (linesAt (size g) (lower g) k) + length (linesAt (size g) (upper g) k) ≤ mostDegree

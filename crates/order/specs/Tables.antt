@@ -5,7 +5,7 @@ use mathlib.Core.Bool.{Bool, false, cond, not, _&&_}
 use mathlib.Core.List.{List, [], _∷_, _++_, List·Memᴰ}
 use lib.ListN.{length, getD, take, drop, set}
 use lib.Dec.{eqb}
-use Rattle.words.specs.Limits.{adjacencyPlaces, mostParts, neighbourPlaces, stackPlaces}
+use Rattle.words.specs.Limits.{adjacencyPlaces, mostDegree, mostParts, neighbourPlaces, stackPlaces}
 use Rattle.lists.specs.declared.Found.{Found}
 use Rattle.lists.specs.declared.Found.the-variants.{At}
 use Rattle.lists.specs.Search.{isFound}
@@ -17,14 +17,14 @@ use Rattle.order.specs.Order.{candidate, firstOr}
 
 -- The adjacency table
 
--- part p's neighbours, from place 4 p on; as many as its degree, behind the neighbours of all parts
+-- part p's neighbours, from place mostDegree p on; as many as its degree, behind the neighbours of all parts
 unfoldable pub neighboursIn : List ℕ → ℕ → List ℕ
-neighboursIn table p = take (getD table (neighbourPlaces + p) 0) (drop (4 * p) table)
+neighboursIn table p = take (getD table (neighbourPlaces + p) 0) (drop (mostDegree * p) table)
 
--- a table of all parts with at most four neighbours each
+-- a table of all parts with at most `mostDegree` neighbours each
 pub record TableFits (table : List ℕ) : Type 0 where
   pub places : length table ≡ adjacencyPlaces
-  pub few : (p : ℕ) → getD table (neighbourPlaces + p) 0 ≤ 4
+  pub few : (p : ℕ) → getD table (neighbourPlaces + p) 0 ≤ mostDegree
   pub inside : (i : ℕ) → getD table i 0 < mostParts
 
 -- the table of a list's cables: each part's neighbours by line
@@ -38,7 +38,7 @@ pub record Appendable (table : List ℕ) (p q : ℕ) : Type 0 where
   pub formed : TableFits table
   pub part : p < mostParts
   pub neighbour : q < mostParts
-  pub few : getD table (neighbourPlaces + p) 0 < 4
+  pub few : getD table (neighbourPlaces + p) 0 < mostDegree
 
 -- q put behind part p's neighbours: those of the other parts stay
 pub record Appended (table table' : List ℕ) (p q : ℕ) : Type 0 where
@@ -73,7 +73,7 @@ pub record Steppable (table stack : List ℕ) (top : ℕ) : Type 0 where
   pub formed : TableFits table
   pub places : length stack ≡ stackPlaces
   pub some : 0 < top
-  pub room : top + 3 ≤ adjacencyPlaces
+  pub room : top + 3 ≤ stackPlaces
   pub part : getD stack (top - 1) 0 < mostParts
 
 -- one step of a walk: the part on top of the stack is taken off; if it is left, it is taken out there, and its neighbours are put on the stack

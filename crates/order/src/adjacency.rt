@@ -2,12 +2,13 @@
 use station::fields;
 use words::Part;
 use words::limits::ADJACENCY_PLACES;
+use words::limits::MOST_DEGREE;
 use words::limits::NEIGHBOUR_PLACES;
 ghost use Rattle.station.specs.Station.{stationOf};
 ghost use Rattle.station.specs.Code.{Wired};
 ghost use Rattle.order.specs.Tables.{Adjacent, Appendable, Appended};
 
-// Part p's neighbours by line, at most four, from place 4 p on, and how many they are at place DEGREES + p.
+// Part p's neighbours by line, at most four, from place MOST_DEGREE p on, and how many they are at place DEGREES + p.
 pub type Table = [u16; ADJACENCY_PLACES];
 
 pub const DEGREES: usize = NEIGHBOUR_PLACES;
@@ -19,7 +20,7 @@ fn join(table: &mut Table, p: Part, q: Part)
 {
     let i = p.0 as usize;
     let d = table[DEGREES + i];
-    table[4 * i + d as usize] = q.0;
+    table[MOST_DEGREE * i + d as usize] = q.0;
     table[DEGREES + i] = d + 1;
 }
 

@@ -7,6 +7,7 @@ use lists::Found;
 use station::fields;
 use words::Part;
 use words::Rank;
+use words::limits::MOST_DEGREE;
 use words::limits::MOST_PARTS;
 ghost use mathlib.Core.Path.{_≡_};
 ghost use Prim.Native.Nat.{ℕ, _<_, _≤_};
@@ -28,7 +29,7 @@ fn borders(table: &Table, unranked: &[bool; MOST_PARTS], w: Part) -> bool
     let d = table[DEGREES + i] as usize;
     let mut j = 0;
     while j < d {
-        let q = table[4 * i + j] as usize;
+        let q = table[MOST_DEGREE * i + j] as usize;
         if !unranked[q] {
             return true;
         }

@@ -86,8 +86,8 @@ pub fn rank_cables(list: &[u32], ranking: Ranking) -> Graph
 {
     let cables = fields::cable_count(list);
     let rank = ranking.rank;
-    let mut lower = [Rank(0); MOST_CABLES];
-    let mut upper = [Rank(0); MOST_CABLES];
+    let mut lower = [Rank::of(0); MOST_CABLES];
+    let mut upper = lower;
     let mut i = 0;
     while i < cables {
         let a = rank[fields::one_part(list, i).0 as usize];

@@ -4,13 +4,14 @@ use crate::adjacency::Table;
 use lists::Found;
 use station::fields;
 use words::Part;
+use words::limits::MOST_DEGREE;
 use words::limits::MOST_PARTS;
 use words::limits::STACK_PLACES;
 ghost use mathlib.Core.Path.{_≡_};
 ghost use mathlib.Core.Bool.{false};
 ghost use Prim.Native.Nat.{_+_, _<_, _≤_};
 ghost use lib.ListN.{length, getD};
-ghost use Rattle.words.specs.Limits.{mostParts, stackPlaces};
+ghost use Rattle.words.specs.Limits.{mostDegree, mostParts, stackPlaces};
 ghost use Rattle.lists.specs.Search.{seek};
 ghost use Rattle.lists.specs.Select.{without};
 ghost use Rattle.station.specs.Station.{stationOf};
@@ -20,7 +21,7 @@ ghost use Rattle.order.specs.Tables.{neighboursIn, TableFits, Adjacent, 
 // The neighbours of p put on the stack, the first on top. The stack's height after it.
 fn push(table: &Table, p: Part, stack: &mut [u16; STACK_PLACES], top: usize) -> usize
     requires { ⌜ TableFits (now table) ⌝ }
-    requires { ⌜ (p .0 < mostParts) × (length (now stack) ≡ stackPlaces) × (top + 4 ≤ stackPlaces) ⌝ }
+    requires { ⌜ (p .0 < mostParts) × (length (now stack) ≡ stackPlaces) × (top + mostDegree ≤ stackPlaces) ⌝ }
     ensures { λ r. ⌜ Pushed (neighboursIn (now (table .entry)) (p .0)) (now (stack .entry)) top (now (stack .exit)) r ⌝ }
 {
     let i = p.0 as usize;
@@ -28,7 +29,7 @@ fn push(table: &Table, p: Part, stack: &mut [u16; STACK_PLACES], top: usize) -> 
     let mut j = table[DEGREES + i] as usize;
     while 0 < j {
         j -= 1;
-        stack[at] = table[4 * i + j];
+        stack[at] = table[MOST_DEGREE * i + j];
         at += 1;
     }
     at

@@ -14,7 +14,7 @@ use Rattle.lists.proofs.Select.{length-tabulate}
 use Rattle.hookup.specs.Outcome.{outcome}
 use Rattle.text.specs.Ascii.{ascii}
 use Rattle.text.specs.Bytes.{wordsIn}
-use Rattle.printing.specs.Printed.{loaded, loadedRow, answerText, fileText, printed}
+use Rattle.printing.specs.Printed.{mostBytes, loaded, loadedRow, answerText, fileText, printed}
 use Rattle.printing.specs.declared.Loaded.{Loaded}
 use Rattle.printing.specs.declared.Loaded.the-variants.{TooLarge, Broken, Words}
 use Rattle.printing.proofs.AnswerLaws.{outcome-within, length-answerText}
@@ -24,29 +24,29 @@ unfolding wordsIn
 length-wordsIn bytes = length-tabulate (length bytes / 4) _
 
 module _ (bytes : List ℕ) where
-  pub loaded-large : 65536 < length bytes → loaded bytes ≡ TooLarge
+  pub loaded-large : mostBytes < length bytes → loaded bytes ≡ TooLarge
   unfolding loaded
-  loaded-large h = rw (lt-ltb 65536 (length bytes) h) refl
+  loaded-large h = rw (lt-ltb mostBytes (length bytes) h) refl
 
-  pub loaded-broken : length bytes ≤ 65536 → (length bytes % 4 ≡ 0 → ⊥) → loaded bytes ≡ Broken
+  pub loaded-broken : length bytes ≤ mostBytes → (length bytes % 4 ≡ 0 → ⊥) → loaded bytes ≡ Broken
   unfolding loaded
-  loaded-broken h n = rw (le-ltb 65536 (length bytes) h, ne-eqb (length bytes % 4) 0 n) refl
+  loaded-broken h n = rw (le-ltb mostBytes (length bytes) h, ne-eqb (length bytes % 4) 0 n) refl
 
-  pub loaded-words : length bytes ≤ 65536 → length bytes % 4 ≡ 0 → loaded bytes ≡ Words (length bytes / 4)
+  pub loaded-words : length bytes ≤ mostBytes → length bytes % 4 ≡ 0 → loaded bytes ≡ Words (length bytes / 4)
   unfolding loaded
-  loaded-words h e = rw (le-ltb 65536 (length bytes) h, eq-eqb (length bytes % 4) 0 e) refl
+  loaded-words h e = rw (le-ltb mostBytes (length bytes) h, eq-eqb (length bytes % 4) 0 e) refl
 
   -- how many words there are, and at most
-  pub loaded-count : {n : ℕ} → loaded bytes ≡ Words n → (length bytes / 4 ≡ n) × (n ≤ 16384)
+  pub loaded-count : {n : ℕ} → loaded bytes ≡ Words n → (length bytes / 4 ≡ n) × (n ≤ mostBytes / 4)
   unfolding loaded
-  loaded-count {n} e = go (ltb 65536 (length bytes)) (eqb (length bytes % 4) 0) refl e
+  loaded-count {n} e = go (ltb mostBytes (length bytes)) (eqb (length bytes % 4) 0) refl e
     where
-      go : (a b : Bool) → ltb 65536 (length bytes) ≡ a → cond a TooLarge (cond b (Words (length bytes / 4)) Broken) ≡ Words n → (length bytes / 4 ≡ n) × (n ≤ 16384)
+      go : (a b : Bool) → ltb mostBytes (length bytes) ≡ a → cond a TooLarge (cond b (Words (length bytes / 4)) Broken) ≡ Words n → (length bytes / 4 ≡ n) × (n ≤ mostBytes / 4)
       go true b t f = let z : _≡_ {A = ℕ} 0 1 = cc in absurd (omega arith)
       go false false t f = let z : _≡_ {A = ℕ} 0 1 = cc in absurd (omega arith)
       go false true t f =
           let h : length bytes / 4 ≡ n = cc in
-          (h, omega (arith, ltb-false 65536 (length bytes) t))
+          (h, omega (arith, ltb-false mostBytes (length bytes) t))
 
   -- room for a sheet of so many words is room for every text
   pub length-printed : (words : ℕ) → 6 ≤ words → length (printed bytes words) ≤ 9 * words

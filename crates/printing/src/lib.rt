@@ -8,7 +8,7 @@ use text::lines::put_text;
 use words::limits::MOST_WORDS;
 ghost use mathlib.Core.Path.{_≡_};
 ghost use mathlib.Core.List.{_++_};
-ghost use Prim.Native.Nat.{_+_, _*_, _≤_};
+ghost use Prim.Native.Nat.{_+_, _*_, _/_, _≤_};
 ghost use lib.ListN.{length, take, drop};
 ghost use Rattle.lists.specs.Stores.{Stored};
 ghost use Rattle.hookup.specs.Outcome.{outcome};
@@ -29,7 +29,7 @@ pub enum Loaded {
 
 // The words of a file, stored from the front, unless it is too large or broken.
 pub fn load(bytes: &[u8], words: &mut [u32]) -> Loaded
-    requires { ⌜ 16384 ≤ length (now words) ⌝ }
+    requires { ⌜ mostBytes / 4 ≤ length (now words) ⌝ }
     ensures answer { λ r. ⌜ r ≡ loaded (now (bytes .entry)) ⌝ }
     ensures stored { λ r. ⌜ now (words .exit) ≡ loadedRow r (now (bytes .entry)) (now (words .entry)) ⌝ }
 {

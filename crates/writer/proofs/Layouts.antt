@@ -54,7 +54,7 @@ module _ (l : Layout) (L : IsLayout l) where
   part-count = parts-count G
 
   column-at : (k : ℕ) → k < l .graph .parts → getD (columns G (l .graph .parts) .parts) k 0 ≡ getD (l .columns .parts) k 0
-  column-at k h = ap (λ (xs : List ℕ). getD xs k 0) (sym (L .parts)) ∙ getD-take (l .graph .parts) (l .columns .parts) k 0 h
+  column-at k h = ap (λ (xs : List ℕ). getD xs k 0) (sym (L .columns .parts)) ∙ getD-take (l .graph .parts) (l .columns .parts) k 0 h
 
   pub spot-at : (k : ℕ) → k < l .graph .parts → spotOf (layoutIn l) k ≡ spotAt (getD (l .columns .parts) k 0) (l .«bottom_rows» + k)
   unfolding rankSpot partSpot row

@@ -3,7 +3,7 @@ use Prim.Native.Nat.{_-_}
 use borrow.Author.Needs.{needs}
 use Rattle.lists.proofs.Seeking.{Seeking, seeking-start}
 use Rattle.station.proofs.Passed.{wired}
-use Rattle.order.proofs.Neighbours.{words-8}
+use Rattle.order.proofs.Passed.{words-8}
 use Rattle.order.proofs.Connected.{cuts, check10-next, check10-at, check10-none}
 use Rattle.order.proofs.check10.Statement.{statement}
 use Rattle.order.proofs.check10.Tie as tie

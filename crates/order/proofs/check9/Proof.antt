@@ -1,7 +1,7 @@
 -- `order::check9` meets its contract. Assumes nothing.
 use borrow.Author.Needs.{needs}
 use Rattle.station.proofs.Passed.{wired}
-use Rattle.order.proofs.Neighbours.{words-8}
+use Rattle.order.proofs.Passed.{words-8}
 use Rattle.order.proofs.Connected.{check9-found}
 use Rattle.order.proofs.check9.Statement.{statement}
 use Rattle.order.proofs.check9.Tie as tie

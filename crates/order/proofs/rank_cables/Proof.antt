@@ -11,8 +11,7 @@ use Rattle.station.specs.Station.{stationOf}
 use Rattle.order.specs.Graph.{lower, upper}
 use Rattle.order.specs.Ends.{graphOf}
 use Rattle.order.specs.Ranking.{rankNumbers}
-use Rattle.order.proofs.Passed.{lines-most}
-use Rattle.order.proofs.Neighbours.{words-10}
+use Rattle.order.proofs.Passed.{lines-most, words-10}
 use Rattle.order.proofs.LineRanks.{blank, length-blank, filled-blank, filled-rank, one-below, other-below, lower-line, upper-line, lines-ranked}
 use Rattle.order.proofs.rank_cables.Statement.{statement}
 use Rattle.order.proofs.rank_cables.Tie as tie
@@ -25,11 +24,11 @@ abbrev μ-loop : tie.MeasureT-loop
 μ-loop list cables rank lower₀ upper₀ i₀ lowers uppers i = cables - i
 
 module _ (c : tie.In-loop Inv-loop μ-loop) where
-  line : c .before .loop .i < length (stationOf (now (c .before .before .before .before .before .args .list)) .cables)
-  line = omega (arith, c .loop-test .taken, c .before .before .before .cable-count .ensures)
+  line : c .before .loop .i < length (stationOf (now (c .before .before .before .before .before .before .args .list)) .cables)
+  line = omega (arith, c .loop-test .taken, c .before .before .before .before .cable-count .ensures)
 
   room : c .before .loop .i < mostCables
-  room = omega (arith, line, lines-most _ (c .before .before .before .before .before .pre .0))
+  room = omega (arith, line, lines-most _ (c .before .before .before .before .before .before .pre .0))
 
   place : c .before .loop .i < length blank
   place = omega (arith, room, length-blank)
@@ -37,8 +36,11 @@ module _ (c : tie.In-loop Inv-loop μ-loop) where
 cable-count-requires : tie.Need-cable-count-requires Inv-loop μ-loop
 cable-count-requires c κs = words-10 _ (c .before .pre .0)
 
+of-requires : tie.Need-of-requires Inv-loop μ-loop
+of-requires c κs = search needs
+
 loop-holds : tie.Need-loop-holds Inv-loop μ-loop
-loop-holds c = (omega arith, filled-blank _, filled-blank _)
+loop-holds c = (omega arith, filled-blank _ _ (c .of .ensures), filled-blank _ _ (c .of .ensures))
 
 one-part-requires : tie.Need-one-part-requires Inv-loop μ-loop
 one-part-requires c κs = line-word _ _ (line c)
@@ -47,7 +49,7 @@ cast-a : tie.Need-cast-a Inv-loop μ-loop
 cast-a c = search needs
 
 array-copy-out-a : tie.Need-array-copy-out-a Inv-loop μ-loop
-array-copy-out-a c = one-below _ (c .before .before .before .before .before .before .before .pre .0) _ (c .before .one-part .ensures)
+array-copy-out-a c = one-below _ (c .before .before .before .before .before .before .before .before .pre .0) _ (c .before .one-part .ensures)
 
 other-part-requires : tie.Need-other-part-requires Inv-loop μ-loop
 other-part-requires c κs = line-word _ _ (line (c .before .before .before))
@@ -56,7 +58,7 @@ cast-b : tie.Need-cast-b Inv-loop μ-loop
 cast-b c = search needs
 
 array-copy-out-b : tie.Need-array-copy-out-b Inv-loop μ-loop
-array-copy-out-b c = other-below _ (c .before .before .before .before .before .before .before .before .before .before .pre .0) _ (c .before .other-part .ensures)
+array-copy-out-b c = other-below _ (c .before .before .before .before .before .before .before .before .before .before .before .pre .0) _ (c .before .other-part .ensures)
 
 lower-of-requires : tie.Need-lower-of-requires Inv-loop μ-loop
 lower-of-requires c κs = search needs
@@ -80,7 +82,7 @@ loop-again : tie.Need-loop-again Inv-loop μ-loop
 loop-again c =
     let k = c .before .before .before .before .before .before .before .before in
     let l = k .before .loop in
-    let s = k .before .before .before .before .before in
+    let s = k .before .before .before .before .before .before in
     let one = c .before .before .before .before .before .before .before .one-part .ensures in
     let other = c .before .before .before .before .other-part .ensures in (
       omega arith,
@@ -89,13 +91,13 @@ loop-again c =
     )
 
 part-count-requires : tie.Need-part-count-requires Inv-loop μ-loop
-part-count-requires c κs = words-10 _ (c .before .before .before .before .before .pre .0)
+part-count-requires c κs = words-10 _ (c .before .before .before .before .before .before .pre .0)
 
 returns : tie.Need-returns Inv-loop μ-loop
 returns c =
     let l = c .before .before .loop in
-    let s = c .before .before .before .before .before .before in
-    let m = c .before .before .before .before .cable-count .ensures in (
+    let s = c .before .before .before .before .before .before .before in
+    let m = c .before .before .before .before .before .cable-count .ensures in (
       lines-ranked _ (s .pre .0) (c .part-count .ensures) m (c .before .loop-test .left) (l .inv .1) (l .inv .2),
       omega (arith, m, lines-most _ (s .pre .0)),
     )
@@ -107,6 +109,7 @@ rank-cables-spec =
     Inv-loop
     μ-loop
     cable-count-requires
+    of-requires
     loop-holds
     one-part-requires
     cast-a

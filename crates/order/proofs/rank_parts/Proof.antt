@@ -1,7 +1,6 @@
 -- `order::rank_parts` meets its contract. Assumes nothing.
 use borrow.Author.Needs.{needs}
-use Rattle.order.proofs.Passed.{list-wired}
-use Rattle.order.proofs.Neighbours.{words-10}
+use Rattle.order.proofs.Passed.{list-wired, words-10}
 use Rattle.order.proofs.Rankings.{ranking-done}
 use Rattle.order.proofs.rank_parts.Statement.{statement}
 use Rattle.order.proofs.rank_parts.Tie as tie
