@@ -29,6 +29,8 @@ int main(void)
         case 4: printf("width %u, height %u\n", first, second); break;
         case 5: printf("part %zu at (%u,%u)\n", i - 1, first, second); break;
         case 6: printf("cable %u, %u corners\n", (unsigned)(sheet[i] >> 12 & 0xffff), second); break;
+        case 8: printf("cable %u, %u steps\n", (unsigned)(sheet[i] >> 12 & 0xffff), second); break;
+        case 10: printf("%u steps in all\n", (unsigned)(sheet[i] & 0xfffffff)); break;
         default: printf("  corner (%u,%u)\n", first, second);
         }
     }

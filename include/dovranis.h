@@ -11,9 +11,12 @@
  *   2  ends: source, analyser            5  a part's x, y
  *   3  cable: its two parts              6  cable: line in bits 27 to 12, count of corners
  *   4  sheet head: width, height         7  a corner's x, y
+ *   8  length: line in bits 27 to 12, grid steps along that cable's line
+ *  10  total: grid steps of all cables in bits 27 to 0
  *
  * A list is one head, one ends word and m cables. A sheet is its head, the parts by number, then the
- * cables by line, each followed by its corners from the lower-ranked end upward.
+ * cables by line, each followed by its corners from the lower-ranked end upward, then the lengths by
+ * line and their total.
  */
 #ifndef DOVRANIS_H
 #define DOVRANIS_H
@@ -28,7 +31,7 @@ extern "C" {
 /* An output of so many words is long enough for the sheet of every list: with it, or with a longer
  * one, refusal 11 never comes (the law `never-11` in crates/exports/proofs/Calls.antt), and a longer
  * one changes no answer (`room-ample` in Bounds.antt, there too). Some stations need them all. */
-#define DOVRANIS_MOST_WORDS 1285
+#define DOVRANIS_MOST_WORDS 1798
 
 /* DOVRANIS_MOST_WORDS, for programs that do not read this header. */
 size_t dovranis_most_words(void);
@@ -44,14 +47,16 @@ size_t dovranis_most_words(void);
  *   crossings  the pairs of cables with no part in common whose lines cross
  *   place      as it was
  *
- *   Of the sheet's words this holds, whatever the station. They are a head, all parts and all cables,
- *   with no word more; x is counted from the left and y from the bottom, both from 0. Width and height
- *   are the greatest x and y; the width is m - n + 1, the height at most n + 1. No two parts share a
- *   spot, and by rising row they are the smallest st-ordering from source to analyser. Each cable is
- *   level and upright runs in turn from one of its two parts to the other. It does not touch itself or
- *   a part that it doesn't join, and its own parts only with its ends. Any two cables have at most one
- *   crossing, and any other spot that they share is that of a part that both join. There are at most
- *   2m - 2n + 4 corners, and at most two cables have more than two.
+ *   Of the sheet's words this holds, whatever the station. They are a head, all parts, all cables, all
+ *   lengths and the total, with no word more; x is counted from the left and y from the bottom, both
+ *   from 0. Width and height are the greatest x and y; the width is m - n + 1, the height at most
+ *   n + 1. No two parts share a spot, and by rising row they are the smallest st-ordering from source
+ *   to analyser. Each cable is level and upright runs in turn from one of its two parts to the other.
+ *   It does not touch itself or a part that it doesn't join, and its own parts only with its ends. Any
+ *   two cables have at most one crossing, and any other spot that they share is that of a part that
+ *   both join. There are at most 2m - 2n + 4 corners, and at most two cables have more than two. A
+ *   cable's length is the summed distance between the neighbouring points of its line, at most 3n + 5,
+ *   and the total is the sum of all lengths.
  *
  * 1 to 11, a refusal:
  *   sheet      as it was, every word

@@ -4,9 +4,10 @@
   compare_picture.py [COUNT [SEED]]     COUNT random lists (default 40) beside the worked and the largest ones
 
 Sheets come from reference.py. Of each picture: a box at every part's spot; every point of every cable in its path,
-which begins and ends at the borders of its parts; an arc at every crossing and nowhere else; every cable's number,
-nearest to its own line; no text that reaches into a box, a line, an arc, another text or over the edge. It also edits
-a picture and needs each edit to be seen, and compares the pictures in docs/. It is no part of the gate."""
+which begins and ends at the borders of its parts; every cable's title with its parts and its length; an arc at every
+crossing and nowhere else; every cable's number, nearest to its own line; no text that reaches into a box, a line, an
+arc, another text or over the edge. It also edits a picture and needs each edit to be seen, and compares the pictures
+in docs/. It is no part of the gate."""
 import os
 import random
 import re
@@ -85,7 +86,7 @@ class Comparison:
         self.bad = []
         self.root = ElementTree.fromstring(svg)
         self.n, self.s, self.t, self.cables = reference.station(words)
-        _, _, self.height, self.parts, self.corners = reference.read_sheet(words, sheet)
+        _, _, self.height, self.parts, self.corners, self.lengths, _ = reference.read_sheet(words, sheet)
         self.points = [self.points_of(line) for line in range(len(self.cables))]
         self.step = float(self.root.get('data-step'))
         self.named = {e.get('id'): e for e in self.root.iter() if e.get('id')}
@@ -165,10 +166,15 @@ class Comparison:
                 self.bad.append('cable %d is missing' % line)
                 continue
             self.need(path.get('data-points') == ' '.join('%d,%d' % p for p in points), 'data of cable %d' % line)
+            self.need(path.findtext(SVG + 'title') == self.title(line), 'title of cable %d' % line)
             places, its_arcs = walk(path.get('d'))
             self.compare_line(line, points, without_hops(places, its_arcs))
             arcs += [self.arc_spot(line, arc) for arc in its_arcs]
         self.need(sorted(map(str, arcs)) == sorted(map(str, self.crossed)), 'arcs are not the crossings')
+
+    def title(self, line):
+        steps = self.lengths[line]
+        return 'cable %d: part %d to part %d, %d step%s' % (line, *self.cables[line], steps, '' if steps == 1 else 's')
 
     def compare_line(self, line, points, places):
         """The ends are on the borders of the parts, towards the next point; the other places are the corners."""
@@ -318,15 +324,22 @@ def stations(count, rng):
 # What must be told in words, and what must be seen.
 
 def complaints(folder):
-    """Problems with what the program says of input that it can't draw, and with words behind the cables."""
+    """Problems with what the program says of input that it can't draw, and with words behind the total."""
     text, sheet = list_text(reference.TRIANGLE), ['%08x' % w for w in reference.TRIANGLE_SHEET]
     cases = [
         ('cut part', text, ['refused 10 1'], 'part 1 is a cut part'),
         ('no sheet', text, ['broken file'], 'broken file'),
         ('empty sheet', text, [], 'ends where a word of kind 4'),
-        ('short sheet', text, sheet[:-1], 'ends where a word of kind 7'),
+        ('short sheet', text, sheet[:8], 'ends where a word of kind 7'),
         ('other sheet', text + 'cable 1 0\n', sheet, 'kind 6 is due'),
-        ('skew line', text, sheet[:-1] + ['70003001'], 'cable 2 of the sheet'),
+        ('skew line', text, sheet[:8] + ['70003001'] + sheet[9:], 'cable 2 of the sheet'),
+        ('no lengths', text, sheet[:9], 'ends where a word of kind 8'),
+        ('a length less', text, sheet[:11] + sheet[12:], 'kind 8 is due'),
+        ('a length more', text, sheet[:12] + ['80003000'] + sheet[12:], 'kind 10 is due'),
+        ('lengths in another sequence', text, sheet[:9] + [sheet[10], sheet[9]] + sheet[11:], 'length of cable 1'),
+        ('no total', text, sheet[:12], 'ends where a word of kind 10'),
+        ('other total', text, sheet[:12] + ['a0000007'], 'a total of 7 steps'),
+        ('other lengths', text, sheet[:10] + ['80001002', '80002003', 'a0000006'], 'its length is given as 2'),
         ('unknown line', text + 'cabel 1 0\n', sheet, 'line 6 of the list'),
         ('number too large', text + 'cable 1 4096\n', sheet, 'line 6 of the list'),
         ('no ends', 'parts 3\n', sheet, 'one line `parts N`'),
@@ -338,8 +351,8 @@ def complaints(folder):
         if code != 1 or out or due not in why:
             bad.append('%s: exit code %d, said: %s' % (name, code, why))
     plain = run(folder, text, sheet)
-    if plain != run(folder, text, sheet + ['80000001', '80001001', '80002004', 'a0000006', '00000384']):
-        bad.append('words behind the cables change the picture')
+    if plain != run(folder, text, sheet + ['00000384']):
+        bad.append('words behind the total change the picture')
     if plain != run(folder, '# comment\n\n' + text.replace('parts 3', 'parts 3 # three'), sheet):
         bad.append('comments change the picture')
     return bad
@@ -359,6 +372,8 @@ EDITS = [
     (r'(d="M[^"]*)"', r'\g<1>0"'),                                  # a last run too long
     (r'(d="M\d+ )', r'\g<1>1'),                                     # a path that begins elsewhere
     (r'data-points="', 'data-points="1'),
+    (r', 14 steps</title>', ', 4 steps</title>'),
+    (r', 1 step</title>', ', 1 steps</title>'),
     (r'id="cable-7"', 'id="cable-6"'),
     (r'<path id="cable-7".*\n', ''),
     (r'<text class="number" id="number-5".*\n', ''),

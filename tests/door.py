@@ -77,7 +77,7 @@ def agree(lib):
 def main():
     lib = load(build())
     triangle = [0x10030003, 0x20000002, 0x30000001, 0x30001002, 0x30000002]
-    *numbers, output = lib.draw(triangle, 10 * [0xa5a5a5a5])
+    *numbers, output = lib.draw(triangle, 14 * [0xa5a5a5a5])
     print('triangle: result %d, words %d, crossings %d, place %d' % tuple(numbers))
     print(' '.join('%08x' % w for w in output))
     return not agree(lib)

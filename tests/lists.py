@@ -107,6 +107,17 @@ def bundle(rng, n, ways):
     return n, cables
 
 
+def long_cable(n):
+    """With s = 0 and t = n - 1 the cable between them has 3n steps: it leaves s
+    downward, comes to t from above, and s and t stand in the third and the second
+    of n + 1 columns. Parts 1 and 2 have three cables, the others four; n is 9 or
+    more."""
+    t, inner = n - 1, range(3, n - 1)
+    cables = {pair(p, inner[(i + k) % len(inner)]) for i, p in enumerate(inner) for k in (1, 2)}
+    cables.remove((3, n - 2))
+    return n, cables | {(0, 1), (0, 2), (0, 3), (0, t), (1, 2), (1, t), (2, t), (n - 2, t)}
+
+
 def ears(rng, n):
     """A ring, then ears until all n parts are in, then single cables; each step
     leaves no cut part."""
@@ -228,11 +239,11 @@ def large(rng):
 
 def rooms(words):
     """Lengths of output to try for a list that passes checks 1 to 10: around
-    the 3m - n + 3 + d + e words of its sheet, and none at all."""
+    the 4m - n + 4 + d + e words of its sheet, and none at all."""
     n, m = words[0] >> 16 & 0xfff, words[0] & 0xffff
     count = degrees(n, [(w >> 12 & 0xfff, w & 0xfff) for w in words[2:]])
     s, t = words[1] >> 12 & 0xfff, words[1] & 0xfff
-    size = 3 * m - n + 3 + (count[s] == 4) + (count[t] == 4)
+    size = 4 * m - n + 4 + (count[s] == 4) + (count[t] == 4)
     return [0, 1, size - 2, size - 1, size, size + 1]
 
 
@@ -618,6 +629,11 @@ def boundaries():
         put('sheet', '256 parts: ' + what, build(n, 0, n - 1, sorted(cables)))
         put('sheet', '256 parts: %s shuffled' % what,
             listed(rng, n, cables, *rng.sample(range(n), 2)))
+
+    # The longest cable that is known for so many parts.
+    for n in (9, 256):
+        put('sheet', '%d parts: a cable of %d steps' % (n, 3 * n),
+            build(n, 0, n - 1, sorted(long_cable(n)[1])))
     return out
 
 

@@ -15,8 +15,8 @@ import reference
 HERE = os.path.dirname(os.path.abspath(__file__))
 CRATE = os.path.join(os.path.dirname(HERE), 'crates', 'cases')
 
-# of the largest stations three are kept: a ladder, a torus and one with 512 cables
-LARGE = ('sheet, 256 parts: ladder shuffled', 'sheet, 256 parts: torus shuffled', 'sheet, 256 parts: 512 cables shuffled')
+# of the largest stations three are kept: a ladder, one with 512 cables and one with a long cable
+LARGE = ('sheet, 256 parts: ladder shuffled', 'sheet, 256 parts: 512 cables shuffled', 'sheet, 256 parts: a cable of 768 steps')
 
 WORKED = (
     '10030003 20000002 30000001 30001002 30000002',
@@ -35,7 +35,7 @@ def chosen(seed):
     rng = random.Random(seed)
     out = [[int(w, 16) for w in row.split()] for row in WORKED]
     out += [words for name, words in lists.boundaries() if not name.startswith('sheet, 256 parts') or name in LARGE]
-    wanted = {(a, b): 12 for a in (2, 3, 4) for b in (2, 3, 4)}
+    wanted = {(a, b): 11 for a in (2, 3, 4) for b in (2, 3, 4)}
     while any(wanted.values()):
         words = lists.drawn(rng, 3, 40)
         if wanted[shape(words)]:

@@ -165,7 +165,7 @@ def refusals():
     n, cables = hung(rng, (128, 127))
     yield 'refused 10', lists.build(n, 0, 1, sorted(cables)), 2048
     n, cables = lists.four_regular(rng, 256)
-    yield 'refused 11', lists.build(n, 0, 255, sorted(cables)), 1284
+    yield 'refused 11', lists.build(n, 0, 255, sorted(cables)), 1797
 
 
 def chosen(rows, asked):

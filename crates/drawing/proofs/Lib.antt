@@ -1,8 +1,11 @@
--- Laws of drawings: spots and their test (Spots), the test that lines cross (Crossing), words read back (ReadBack) and
--- counted (WordCounts), other numbers of the parts (Renaming, Renumbered, Sized), and small examples (Worked). Assumes nothing.
+-- Laws of drawings: spots and their test (Spots), the test that lines cross (Crossing), the lengths of lines (Lengths) and their words
+-- (LengthWords), all words read back (ReadBack, Measured) and counted (WordCounts), other numbers of the parts (Renaming, Renumbered, Sized), and small examples (Worked). Assumes nothing.
 pub mod Spots
 pub mod Crossing
+pub mod Lengths
+pub mod LengthWords
 pub mod ReadBack
+pub mod Measured
 pub mod WordCounts
 pub mod Renaming
 pub mod Renumbered

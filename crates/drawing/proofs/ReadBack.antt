@@ -8,13 +8,16 @@ use mathlib.Core.List.{List, [], _∷_, _++_, map, append-nil, append-assoc}
 use mathlib.Core.List.{List·Memᴰ, List·Memᴰ·cases-cons, List·Memᴰ·not-nil, List·Memᴰ·append-cases}
 use lib.ListN.{length, getD, take, drop, length-map}
 use lib.Seq.{take-at, drop-at}
-use Rattle.words.specs.Words.{secondOf, sheetHead, sheetHeadWord, part, sheetCableWord, corner}
-use Rattle.words.proofs.Words.{fields-apart, sheetCable-apart}
+use Rattle.words.specs.Words.{secondOf, sheetHead, sheetHeadWord, part, sheetCable, sheetCableWord, corner}
+use Rattle.words.proofs.Words.{fields-apart, lineFields-apart}
 use Rattle.drawing.specs.Spots.{Spot, origin}
 use Rattle.drawing.specs.Drawing.{Route, noRoute, Drawing}
-use Rattle.drawing.specs.Sheet.{partSpotWord, cornerSpotWord, routeWords, routesWords, headSection, partsSection, cablesSection, sheetWords}
-use Rattle.drawing.specs.Reading.{Ends, noEnds, wordSpot, routesIn, drawingIn}
+use Rattle.drawing.specs.Sheet.{partSpotWord, cornerSpotWord, routeWords, routesWords, lengthWords, headSection, partsSection, cablesSection, lengthsSection, sheetWords}
+use Rattle.drawing.specs.Lengths.{cableLengths}
+use Rattle.drawing.specs.Reading.{Ends, noEnds, wordSpot, routesIn, drawingIn, behindCables, lengthsIn}
 use Rattle.drawing.proofs.Spots.{spot-path}
+use Rattle.drawing.proofs.Lengths.{lengths-count}
+use Rattle.drawing.proofs.LengthWords.{LengthsFit, lengthWords-fit}
 
 -- Numbers that fit their fields
 
@@ -39,6 +42,7 @@ pub record DrawingFits (n : ℕ) (ends : List Ends) (d : Drawing) : Type 0 where
   pub parts-fit : AllFit (d .parts)
   pub routes-count : length (d .routes) ≡ length ends
   pub routes-fit : (i : ℕ) → i < length ends → RouteFits (getD ends i noEnds) (getD (d .routes) i noRoute)
+  pub lengths-fit : LengthsFit (cableLengths d)
 
 -- Spots
 
@@ -94,18 +98,37 @@ routes-back (e ∷ es) (r ∷ rs) line rest h f =
     (ap (routesIn es) (corners-dropped (r .corners) w behind (secondOf w) count)
     ∙ routes-back es rs (line + 1) rest (omega arith) (λ i g. f (suc i) (omega arith)))
 
+-- and what is left behind them
+routes-behind :
+    (es : List Ends) (rs : List Route) (line : ℕ) (rest : List ℕ) → length rs ≡ length es
+    → ((i : ℕ) → i < length es → RouteFits (getD es i noEnds) (getD rs i noRoute)) → behindCables (length rs) (routesWords line rs ++ rest) ≡ rest
+unfolding behindCables routeWords routesWords
+routes-behind [] [] line rest h f = refl
+routes-behind [] (r ∷ rs) line rest h f = absurd (omega arith)
+routes-behind (e ∷ es) [] line rest h f = absurd (omega arith)
+routes-behind (e ∷ es) (r ∷ rs) line rest h f =
+    let fit : RouteFits e r = f 0 (omega arith) in
+    let w : ℕ = getD (routeWords line r) 0 0 in
+    let behind : List ℕ = routesWords (line + 1) rs ++ rest in
+    ap (behindCables (length (r ∷ rs))) (route-front line r rs rest)
+    ∙ ap (behindCables (length rs)) (corners-dropped (r .corners) w behind (secondOf w) (omega (arith, fit .few)))
+    ∙ routes-behind es rs (line + 1) rest (omega arith) (λ i g. f (suc i) (omega arith))
+
 -- Drawings
 
 drawing-path : (d q : Drawing) → d .width ≡ q .width → d .height ≡ q .height → d .parts ≡ q .parts → d .routes ≡ q .routes → d ≡ q
 drawing-path d q e f g h = λ i. record { width = e i; height = f i; parts = g i; routes = h i }
 
--- the head, the words of the parts, and all behind them
+-- the head, the words of the parts and of the cables, and all behind them
 sheet-front :
     (d : Drawing) (rest : List ℕ)
-    → sheetWords d ++ rest ≡ sheetHeadWord (d .width) (d .height) ∷ map partSpotWord (d .parts) ++ (routesWords 0 (d .routes) ++ rest)
+    → sheetWords d ++ rest
+    ≡ sheetHeadWord (d .width) (d .height) ∷ map partSpotWord (d .parts) ++ (routesWords 0 (d .routes) ++ (lengthsSection d ++ rest))
 unfolding sheetWords headSection partsSection cablesSection
 sheet-front d rest =
-    ap (λ (l : List ℕ). sheetHeadWord (d .width) (d .height) ∷ l) (append-assoc (map partSpotWord (d .parts)) (routesWords 0 (d .routes)) rest)
+    ap (λ (l : List ℕ). sheetHeadWord (d .width) (d .height) ∷ l)
+    (append-assoc (map partSpotWord (d .parts)) (routesWords 0 (d .routes) ++ lengthsSection d) rest
+    ∙ ap (λ (l : List ℕ). map partSpotWord (d .parts) ++ l) (append-assoc (routesWords 0 (d .routes)) (lengthsSection d) rest))
 
 -- the part words, and those behind them
 parts-taken : (l : List Spot) (rest : List ℕ) (n : ℕ) → length l ≡ n → take n (map partSpotWord l ++ rest) ≡ map partSpotWord l
@@ -120,15 +143,28 @@ module _ (n : ℕ) (ends : List Ends) (d : Drawing) (F : DrawingFits n ends d) w
   unfolding drawingIn
   read-back-front rest =
       let a = fields-apart sheetHead (d .width) (d .height) (omega arith) (F .width-fits) (F .height-fits) in
-      let behind : List ℕ = routesWords 0 (d .routes) ++ rest in
+      let behind : List ℕ = routesWords 0 (d .routes) ++ (lengthsSection d ++ rest) in
       ap (drawingIn n ends) (sheet-front d rest)
       ∙ drawing-path _ d (a .first-is) (a .second-is)
       (ap (map wordSpot) (parts-taken (d .parts) behind n (F .parts-count)) ∙ spots-back partSpotWord part-back (d .parts) (F .parts-fit))
       (ap (routesIn ends) (parts-dropped (d .parts) (sheetHeadWord (d .width) (d .height)) behind n (F .parts-count))
-      ∙ routes-back ends (d .routes) 0 rest (F .routes-count) (F .routes-fit))
+      ∙ routes-back ends (d .routes) 0 (lengthsSection d ++ rest) (F .routes-count) (F .routes-fit))
 
   pub read-back : drawingIn n ends (sheetWords d) ≡ d
   read-back = ap (drawingIn n ends) (sym (append-nil (sheetWords d))) ∙ read-back-front []
+
+  -- and so are the lengths
+  pub lengths-back-front : (rest : List ℕ) → lengthsIn n (length (d .routes)) (sheetWords d ++ rest) ≡ lengthsSection d ++ rest
+  unfolding lengthsIn
+  lengths-back-front rest =
+      ap (lengthsIn n (length (d .routes))) (sheet-front d rest)
+      ∙ ap (behindCables (length (d .routes)))
+      (parts-dropped (d .parts) (sheetHeadWord (d .width) (d .height)) (routesWords 0 (d .routes) ++ (lengthsSection d ++ rest)) n (F .parts-count))
+      ∙ routes-behind ends (d .routes) 0 (lengthsSection d ++ rest) (F .routes-count) (F .routes-fit)
+
+  pub lengths-back : lengthsIn n (length (d .routes)) (sheetWords d) ≡ lengthsSection d
+  lengths-back =
+      ap (lengthsIn n (length (d .routes))) (sym (append-nil (sheetWords d))) ∙ lengths-back-front [] ∙ append-nil (lengthsSection d)
 
 -- 'List and sheet are rows of 32-bit words.'
 
@@ -157,7 +193,7 @@ unfolding routeWords
 route-words-fit line r h few f w m = go (List·Memᴰ·cases-cons m)
   where
     go : (w ≡ sheetCableWord line (length (r .corners))) ⊎ List·Memᴰ w (map cornerSpotWord (r .corners)) → w < 2 ^ 32
-    go (inl e) = omega (arith, sheetCable-apart line (length (r .corners)) h few .fits)
+    go (inl e) = omega (arith, lineFields-apart sheetCable line (length (r .corners)) (omega arith) h few .fits)
     go (inr n) = spot-words-fit cornerSpotWord corner-word-fits (r .corners) f w n
 
 routes-words-fit :
@@ -179,15 +215,22 @@ routes-words-fit (c ∷ cs) (r ∷ rs) line e h f w m =
 pub words-fit :
     (n : ℕ) (ends : List Ends) (d : Drawing) → DrawingFits n ends d → length ends ≤ 65536
     → (w : ℕ) → List·Memᴰ w (sheetWords d) → w < 2 ^ 32
-unfolding sheetWords headSection partsSection cablesSection
+unfolding sheetWords headSection partsSection cablesSection lengthsSection
 words-fit n ends d f h w m = go (List·Memᴰ·cases-cons m)
   where
-    body : List·Memᴰ w (map partSpotWord (d .parts)) ⊎ List·Memᴰ w (routesWords 0 (d .routes)) → w < 2 ^ 32
+    tail : List·Memᴰ w (routesWords 0 (d .routes)) ⊎ List·Memᴰ w (lengthWords (cableLengths d)) → w < 2 ^ 32
+    tail (inl k) = routes-words-fit ends (d .routes) 0 (f .routes-count) (omega arith) (f .routes-fit) w k
+    tail (inr k) = lengthWords-fit (cableLengths d) (f .lengths-fit) (omega (arith, lengths-count d, f .routes-count)) w k
+
+    body :
+        List·Memᴰ w (map partSpotWord (d .parts)) ⊎ List·Memᴰ w (routesWords 0 (d .routes) ++ lengthWords (cableLengths d))
+        → w < 2 ^ 32
     body (inl k) = spot-words-fit partSpotWord part-word-fits (d .parts) (f .parts-fit) w k
-    body (inr k) = routes-words-fit ends (d .routes) 0 (f .routes-count) (omega arith) (f .routes-fit) w k
+    body (inr k) = tail (List·Memᴰ·append-cases (routesWords 0 (d .routes)) k)
 
     go :
-        (w ≡ sheetHeadWord (d .width) (d .height)) ⊎ List·Memᴰ w (map partSpotWord (d .parts) ++ routesWords 0 (d .routes))
+        (w ≡ sheetHeadWord (d .width) (d .height))
+        ⊎ List·Memᴰ w (map partSpotWord (d .parts) ++ (routesWords 0 (d .routes) ++ lengthWords (cableLengths d)))
         → w < 2 ^ 32
     go (inl e) = omega (arith, fields-apart sheetHead (d .width) (d .height) (omega arith) (f .width-fits) (f .height-fits) .fits)
     go (inr k) = body (List·Memᴰ·append-cases (map partSpotWord (d .parts)) k)

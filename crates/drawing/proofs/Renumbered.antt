@@ -1,4 +1,4 @@
--- A drawing with other numbers of its parts: the same spots, lines, meetings, crossings and counts. Assumes nothing.
+-- A drawing with other numbers of its parts: the same spots, lines, lengths, meetings, crossings and counts. Assumes nothing.
 use Prim.Native.Nat.{ℕ, _+_, _<_}
 use native.Mathlib.Omega.{arith}
 use mathlib.Core.Path.{_≡_, refl, sym, ap, ap₂, subst, subst₂, _∙_}
@@ -6,8 +6,9 @@ use mathlib.Core.Bool.{Bool, not, _&&_}
 use mathlib.Core.List.{List, [], _∷_, _++_, map, map-map, List·Memᴰ, List·Memᴰ·head, List·Memᴰ·tail}
 use lib.ListN.{length, getD, length-map}
 use lib.Dec.{eqb, ltb}
-use Rattle.lists.specs.Select.{count, sum, indexOf}
+use Rattle.lists.specs.Select.{tabulate, count, sum, indexOf}
 use Rattle.lists.proofs.Select.{getD-map, length-tabulate, getD-tabulate}
+use Rattle.lists.proofs.Agree.{tabulate-same}
 use Rattle.lists.proofs.Places.{mem-place}
 use Rattle.lists.proofs.Maps.{count-map}
 use Rattle.lists.proofs.Same.{same-eqb, count-same}
@@ -16,6 +17,7 @@ use Rattle.drawing.specs.Lines.{Meetings}
 use Rattle.drawing.specs.Crossing.{linesCross}
 use Rattle.drawing.specs.Drawing.{Route, noRoute, Drawing, spotOf, routePoints, routeAt, pointsAt, Meets}
 use Rattle.drawing.specs.Drawing.{shareEnd, crossPair, crossingsOf, crossings, renumbered}
+use Rattle.drawing.specs.Lengths.{lineLength, cableLengths}
 use Rattle.drawing.specs.Sheet.{sheetWords}
 use Rattle.drawing.specs.Counts.{cornerCount}
 use Rattle.drawing.proofs.WordCounts.{words-length}
@@ -120,6 +122,12 @@ module _ (names : List ℕ) where
       pub points-renumbered : Meets d → (i : ℕ) → i < length (d .routes) → pointsAt (renumbered names d) i ≡ pointsAt d i
       unfolding pointsAt
       points-renumbered M i h = ap (routePoints (renumbered names d)) (route-renumbered i h) ∙ called-points (routeAt d i) (inside-at d M i h)
+
+      pub lengths-renumbered : Meets d → cableLengths (renumbered names d) ≡ cableLengths d
+      unfolding cableLengths
+      lengths-renumbered M =
+          ap (λ (m : ℕ). tabulate m (λ i. lineLength (pointsAt (renumbered names d) i))) routes-renumbered
+          ∙ tabulate-same (length (d .routes)) _ _ (λ i h. ap lineLength (points-renumbered M i h))
 
       -- Meetings
 

@@ -13,9 +13,10 @@ use Rattle.drawing.specs.Sheet.{sheetWords}
 use Rattle.drawing.specs.Reading.{Ends, noEnds}
 use Rattle.drawing.specs.Counts.{isCorner}
 use Rattle.drawing.specs.Sizes.{Sizes}
+use Rattle.drawing.proofs.LengthWords.{LengthsFit}
 use Rattle.drawing.proofs.ReadBack.{SpotFits, AllFit, DrawingFits}
 use Rattle.drawing.proofs.WordCounts.{words-corners}
-use Rattle.drawing.proofs.Renumbered.{Names, parts-renumbered, routes-renumbered, spot-renumbered, first-renumbered, last-renumbered, corners-renumbered, points-renumbered, bends-renumbered, corner-count-renumbered}
+use Rattle.drawing.proofs.Renumbered.{Names, parts-renumbered, routes-renumbered, spot-renumbered, first-renumbered, last-renumbered, corners-renumbered, points-renumbered, lengths-renumbered, bends-renumbered, corner-count-renumbered}
 
 -- the two parts of a cable under their names
 abbrev pub named : List ℕ → Ends → Ends
@@ -23,9 +24,10 @@ named names e = record { first = getD names (e .first) 0; last = getD names (e .
 
 module _ (names : List ℕ) (d : Drawing) (N : Names (length (d .parts)) names) where
   -- a drawing's numbers fit their fields whatever its parts are called
-  pub fits-renumbered : (n : ℕ) (ends : List Ends) → DrawingFits n ends d → DrawingFits n (map (named names) ends) (renumbered names d)
+  pub fits-renumbered :
+      Meets d → (n : ℕ) (ends : List Ends) → DrawingFits n ends d → DrawingFits n (map (named names) ends) (renumbered names d)
   unfolding renumbered routeAt spotOf
-  fits-renumbered n ends F = record {
+  fits-renumbered M n ends F = record {
     width-fits = F .width-fits;
     height-fits = F .height-fits;
     parts-count = parts-renumbered names d ∙ F .parts-count;
@@ -44,6 +46,7 @@ module _ (names : List ℕ) (d : Drawing) (N : Names (length (d .parts)) names) 
           few = omega (arith, ap length (corners-renumbered names d i b), f .few);
           corners-fit = subst AllFit (sym (corners-renumbered names d i b)) (f .corners-fit);
         };
+    lengths-fit = subst LengthsFit (sym (lengths-renumbered names d N M)) (F .lengths-fit);
   }
 
   module _ (M : Meets d) (n : ℕ) (ends : List Ends) (F : DrawingFits n ends d) (few : length ends ≤ 65536) where
@@ -52,7 +55,7 @@ module _ (names : List ℕ) (d : Drawing) (N : Names (length (d .parts)) names) 
 
     pub corner-words-renumbered : count isCorner (sheetWords (renumbered names d)) ≡ count isCorner (sheetWords d)
     corner-words-renumbered =
-        words-corners n (map (named names) ends) (renumbered names d) (fits-renumbered n ends F) (omega (arith, length-map ends (named names)))
+        words-corners n (map (named names) ends) (renumbered names d) (fits-renumbered M n ends F) (omega (arith, length-map ends (named names)))
         ∙ corner-count-renumbered names d ∙ sym (words-corners n ends d F few)
 
     pub sizes-renumbered : Sizes n (length ends) d (sheetWords d) → Sizes n (length ends) (renumbered names d) (sheetWords (renumbered names d))

@@ -1,20 +1,23 @@
 -- How many words a drawing has, section by section, and how many of them are corners. Assumes nothing.
-use Prim.Native.Nat.{ℕ, suc, _+_, _<_, _≤_}
+use Prim.Native.Nat.{ℕ, suc, _+_, _*_, _<_, _≤_}
 use native.Mathlib.Omega.{arith}
-use mathlib.Core.Path.{_≡_, refl, sym, ap, _∙_}
+use mathlib.Core.Path.{_≡_, refl, ap}
 use mathlib.Core.Bool.{true, false}
 use mathlib.Core.List.{List, [], _∷_, _++_, map}
 use lib.ListN.{length, getD, length-append, length-map}
-use borrow.Author.Tests.{eq-eqb, ne-eqb}
+use borrow.Author.Tests.{eq-eqb}
 use Rattle.lists.specs.Select.{count, oneIf, sum}
 use Rattle.lists.proofs.Sums.{count-append}
 use Rattle.words.specs.Words.{kindOf, sheetHead, sheetHeadWord, part, sheetCable, sheetCableWord, corner}
-use Rattle.words.proofs.Words.{fields-apart, sheetCable-apart}
+use Rattle.words.proofs.Words.{fields-apart, lineFields-apart}
 use Rattle.drawing.specs.Spots.{Spot}
 use Rattle.drawing.specs.Drawing.{Route, noRoute, Drawing}
-use Rattle.drawing.specs.Sheet.{partSpotWord, cornerSpotWord, routeWords, routesWords, headSection, partsSection, cablesSection, sheetWords}
+use Rattle.drawing.specs.Sheet.{partSpotWord, cornerSpotWord, routeWords, routesWords, headSection, partsSection, cablesSection, lengthsSection, sheetWords}
+use Rattle.drawing.specs.Lengths.{cableLengths}
 use Rattle.drawing.specs.Reading.{Ends, noEnds}
 use Rattle.drawing.specs.Counts.{cornerCount, isCorner}
+use Rattle.drawing.proofs.Lengths.{lengths-count}
+use Rattle.drawing.proofs.LengthWords.{no-corner, lengthWords-length, lengthWords-corners}
 use Rattle.drawing.proofs.ReadBack.{SpotFits, AllFit, RouteFits, DrawingFits}
 
 -- The length
@@ -41,16 +44,26 @@ pub cables-length : (d : Drawing) → length (cablesSection d) ≡ length (d .ro
 unfolding cablesSection
 cables-length d = routes-length 0 (d .routes)
 
-pub words-length : (d : Drawing) → length (sheetWords d) ≡ 1 + length (d .parts) + length (d .routes) + cornerCount (d .routes)
+pub lengths-length : (d : Drawing) → length (lengthsSection d) ≡ length (d .routes) + 1
+unfolding lengthsSection
+lengths-length d = omega (arith, lengthWords-length (cableLengths d), lengths-count d)
+
+pub section-lengths : (d : Drawing) → length (sheetWords d) ≡ 1 + length (d .parts) + length (cablesSection d) + length (lengthsSection d)
 unfolding sheetWords
-words-length d =
-    let all = length-append (headSection d) (partsSection d ++ cablesSection d) in
-    omega (arith, all, length-append (partsSection d) (cablesSection d), head-length d, parts-length d, cables-length d)
+section-lengths d =
+    omega (
+      arith,
+      length-append (headSection d) (partsSection d ++ (cablesSection d ++ lengthsSection d)),
+      length-append (partsSection d) (cablesSection d ++ lengthsSection d),
+      length-append (cablesSection d) (lengthsSection d),
+      head-length d,
+      parts-length d,
+    )
+
+pub words-length : (d : Drawing) → length (sheetWords d) ≡ 2 + length (d .parts) + 2 * length (d .routes) + cornerCount (d .routes)
+words-length d = omega (arith, section-lengths d, cables-length d, lengths-length d)
 
 -- The corners
-
-no-corner : (kind w : ℕ) → kindOf w ≡ kind → (kind ≡ corner → ⊥) → isCorner w ≡ false
-no-corner kind w e n = ne-eqb (kindOf w) corner (λ q. n (sym e ∙ q))
 
 count-none :
     (word : Spot → ℕ) → ((s : Spot) → SpotFits s → isCorner (word s) ≡ false)
@@ -84,7 +97,7 @@ route-corners line r h few f =
     let w : ℕ = sheetCableWord line (length (r .corners)) in
     omega (
       arith,
-      ap oneIf (no-corner sheetCable w (sheetCable-apart line (length (r .corners)) h few .kind-is) (λ e. omega arith)),
+      ap oneIf (no-corner sheetCable w (lineFields-apart sheetCable line (length (r .corners)) (omega arith) h few .kind-is) (λ e. omega arith)),
       count-every cornerSpotWord corner-corner (r .corners) f,
     )
 
@@ -120,8 +133,20 @@ module _ (n : ℕ) (ends : List Ends) (d : Drawing) (F : DrawingFits n ends d) w
   unfolding cablesSection
   cables-corners h = routes-corners ends (d .routes) 0 (F .routes-count) (omega arith) (F .routes-fit)
 
+  pub lengths-corners : length ends ≤ 65536 → count isCorner (lengthsSection d) ≡ 0
+  unfolding lengthsSection
+  lengths-corners h = lengthWords-corners (cableLengths d) (F .lengths-fit) (omega (arith, lengths-count d, F .routes-count))
+
   pub words-corners : length ends ≤ 65536 → count isCorner (sheetWords d) ≡ cornerCount (d .routes)
   unfolding sheetWords
   words-corners h =
-      let all = count-append isCorner (headSection d) (partsSection d ++ cablesSection d) in
-      omega (arith, all, count-append isCorner (partsSection d) (cablesSection d), head-corners, parts-corners, cables-corners h)
+      omega (
+        arith,
+        count-append isCorner (headSection d) (partsSection d ++ (cablesSection d ++ lengthsSection d)),
+        count-append isCorner (partsSection d) (cablesSection d ++ lengthsSection d),
+        count-append isCorner (cablesSection d) (lengthsSection d),
+        head-corners,
+        parts-corners,
+        cables-corners h,
+        lengths-corners h,
+      )

@@ -1,11 +1,11 @@
--- Small drawings: document 01's triangle as words and read back, and lines that cross. Assumes nothing.
+-- Small drawings: document 01's triangle as words (2026-01) and read back, and lines that cross. Assumes nothing.
 use Prim.Native.Nat.{ℕ}
 use mathlib.Core.Path.{_≡_, refl}
 use mathlib.Core.List.{List, [], _∷_}
 use Rattle.drawing.specs.Spots.{Spot, spotAt}
 use Rattle.drawing.specs.Drawing.{Route, Drawing, crossings}
 use Rattle.drawing.specs.Sheet.{sheetWords}
-use Rattle.drawing.specs.Reading.{Ends, drawingIn}
+use Rattle.drawing.specs.Reading.{Ends, drawingIn, lengthsIn}
 use Rattle.drawing.proofs.Computing.{drawing-computing}
 
 abbrev route : ℕ → ℕ → List Spot → Route
@@ -22,16 +22,32 @@ triangle = record {
   routes = route 0 1 [] ∷ route 1 2 [] ∷ route 0 2 (spotAt 1 0 ∷ spotAt 1 2 ∷ []) ∷ [];
 }
 
-abbrev nine : List ℕ
-nine = 0x40001002 ∷ 0x50000000 ∷ 0x50000001 ∷ 0x50000002 ∷ 0x60000000 ∷ 0x60001000 ∷ 0x60002002 ∷ 0x70001000 ∷ 0x70001002 ∷ []
+-- 'The triangle ends `80000001 80001001 80002004 a0000006`'
+abbrev pub thirteen : List ℕ
+thirteen =
+    0x40001002
+    ∷ 0x50000000
+    ∷ 0x50000001
+    ∷ 0x50000002
+    ∷ 0x60000000
+    ∷ 0x60001000
+    ∷ 0x60002002
+    ∷ 0x70001000
+    ∷ 0x70001002
+    ∷ 0x80000001
+    ∷ 0x80001001
+    ∷ 0x80002004
+    ∷ 0xa0000006
+    ∷ []
 
 -- a level line from part 0 to part 1, and one that goes up over it
 abbrev over : Route → Drawing
 over r = record { width = 2; height = 2; parts = spotAt 0 1 ∷ spotAt 2 1 ∷ spotAt 1 0 ∷ spotAt 1 2 ∷ []; routes = route 0 1 [] ∷ r ∷ [] }
 
 record Worked : Type 0 where
-  triangle-words : sheetWords triangle ≡ nine
-  triangle-read : drawingIn 3 (ends 0 1 ∷ ends 1 2 ∷ ends 0 2 ∷ []) nine ≡ triangle
+  triangle-words : sheetWords triangle ≡ thirteen
+  triangle-read : drawingIn 3 (ends 0 1 ∷ ends 1 2 ∷ ends 0 2 ∷ []) thirteen ≡ triangle
+  triangle-lengths : lengthsIn 3 3 thirteen ≡ 0x80000001 ∷ 0x80001001 ∷ 0x80002004 ∷ 0xa0000006 ∷ []
   -- 'the pairs of cables with no part in common whose lines cross'
   crossed : crossings (over (route 2 3 [])) ≡ 1
   -- this one ends at part 0
@@ -39,4 +55,4 @@ record Worked : Type 0 where
 
 worked : Worked
 unfolding drawing-computing
-worked = record { triangle-words = refl; triangle-read = refl; crossed = refl; joined = refl }
+worked = record { triangle-words = refl; triangle-read = refl; triangle-lengths = refl; crossed = refl; joined = refl }

@@ -1,9 +1,12 @@
--- Document 01: what a sheet is. Spots, runs and lines, how they meet; a drawing, its words, and the drawing that words show. Assumes nothing.
+-- Document 01 and request 2026-01: what a sheet is. Spots, runs and lines, how they meet; a drawing, the lengths of its lines, its words, and the
+-- drawing that words show. Assumes nothing.
 pub mod Spots
 pub mod Lines
 pub mod Crossing
 pub mod Drawing
+pub mod Lengths
 pub mod Sheet
 pub mod Reading
 pub mod Counts
 pub mod Sizes
+pub mod Measured

@@ -1,5 +1,5 @@
 -- The drawing that a sheet's words show, given the count of its parts and the two parts of each cable. Assumes nothing.
-use Prim.Native.Nat.{ℕ, _+_}
+use Prim.Native.Nat.{ℕ, zero, suc, _+_}
 use mathlib.Core.List.{List, [], _∷_, map}
 use lib.ListN.{getD, take, drop}
 use Rattle.lists.specs.Select.{range, sortBy}
@@ -39,3 +39,12 @@ drawingIn n ends sheet = record {
 -- the n parts of a sheet by rising row
 unfoldable pub partsByRow : ℕ → List ℕ → List ℕ
 partsByRow n sheet = sortBy (λ p. secondOf (getD sheet (1 + p) 0)) (range n)
+
+-- the words behind the cables and their corners, of m cables
+unfoldable pub behindCables : ℕ → List ℕ → List ℕ
+behindCables zero words = words
+behindCables (suc m) words = behindCables m (drop (secondOf (getD words 0 0) + 1) words)
+
+-- 2026-01: the words of a sheet of n parts and m cables that come 'after the last cable's corners'
+unfoldable pub lengthsIn : ℕ → ℕ → List ℕ → List ℕ
+lengthsIn n m sheet = behindCables m (drop (1 + n) sheet)

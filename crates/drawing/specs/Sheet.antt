@@ -1,11 +1,13 @@
 -- Document 01: 'A sheet is its head, the parts by number, then the cables by line, each followed by its corners from the lower-ranked end upward.'
--- The words of a drawing, section by section. Assumes nothing.
+-- Request 2026-01: behind them the lengths of the cables. The words of a drawing, section by section. Assumes nothing.
 use Prim.Native.Nat.{ℕ, _+_}
 use mathlib.Core.List.{List, [], _∷_, _++_, map}
-use lib.ListN.{length}
-use Rattle.words.specs.Words.{sheetHeadWord, partWord, sheetCableWord, cornerWord}
+use lib.ListN.{length, getD}
+use Rattle.lists.specs.Select.{tabulate, sum}
+use Rattle.words.specs.Words.{sheetHeadWord, partWord, sheetCableWord, cornerWord, cableLengthWord, totalLengthWord}
 use Rattle.drawing.specs.Spots.{Spot}
 use Rattle.drawing.specs.Drawing.{Route, Drawing}
+use Rattle.drawing.specs.Lengths.{cableLengths}
 
 unfoldable pub partSpotWord : Spot → ℕ
 partSpotWord p = partWord (p .x) (p .y)
@@ -22,6 +24,10 @@ unfoldable pub routesWords : ℕ → List Route → List ℕ
 routesWords line [] = []
 routesWords line (r ∷ rs) = routeWords line r ++ routesWords (line + 1) rs
 
+-- 2026-01: 'm words of kind 8', the lengths by line, 'then one of kind 10 with the total', which is their sum
+unfoldable pub lengthWords : List ℕ → List ℕ
+lengthWords lengths = tabulate (length lengths) (λ i. cableLengthWord i (getD lengths i 0)) ++ totalLengthWord (sum lengths) ∷ []
+
 -- The sections
 
 unfoldable pub headSection : Drawing → List ℕ
@@ -33,6 +39,9 @@ partsSection d = map partSpotWord (d .parts)
 unfoldable pub cablesSection : Drawing → List ℕ
 cablesSection d = routesWords 0 (d .routes)
 
+unfoldable pub lengthsSection : Drawing → List ℕ
+lengthsSection d = lengthWords (cableLengths d)
+
 -- the sections of a sheet, in their sequence
 unfoldable pub sheetWords : Drawing → List ℕ
-sheetWords d = headSection d ++ (partsSection d ++ cablesSection d)
+sheetWords d = headSection d ++ (partsSection d ++ (cablesSection d ++ lengthsSection d))

@@ -37,7 +37,7 @@ verdict-between list e =
 
 -- The sheet of a list that passes them
 
--- '3m - n + 3 + d + e words', where n is at most 256 and m at most 2n
+-- '3m - n + 3 + d + e words' and m + 1 lengths (2026-01), where m is at most 2n
 words-most : (list : List ℕ) → Clear allChecks list → length (sheetWords (drawing (stationOf list))) ≤ mostWords
 words-most list p = omega (arith, demand3.words-most list p)
 

@@ -19,14 +19,15 @@ use Rattle.order.proofs.Ends.{parts-joined}
 use Rattle.order.proofs.Passed.{list-orderable, lines-most}
 use Rattle.drawing.specs.Drawing.{Drawing, routeAt, Meets}
 use Rattle.drawing.specs.Sheet.{sheetWords}
-use Rattle.drawing.specs.Reading.{Ends, noEnds, partsByRow}
+use Rattle.drawing.specs.Reading.{Ends, noEnds, partsByRow, lengthsIn}
 use Rattle.drawing.specs.Sizes.{Sizes}
+use Rattle.drawing.specs.Measured.{Measured}
 use Rattle.drawing.proofs.ReadBack.{words-fit}
 use Rattle.hookup.specs.Drawing.{drawing}
 use Rattle.hookup.specs.Reading.{endsBy, drawingOf}
 use Rattle.hookup.specs.Demand.{Form, Demand3, rowOf, Ordered}
 use Rattle.hookup.proofs.Drawn as drawn
-use Rattle.hookup.proofs.Drawn.{endsOf, fits, reads, meets, sizes}
+use Rattle.hookup.proofs.Drawn.{endsOf, fits, reads, meets, sizes, measured}
 use Rattle.hookup.proofs.PartRows.{parts-by-row, rank-row, bottom-rows}
 
 module _ (st : Station) (H : Orderable st) where
@@ -74,6 +75,9 @@ module _ (list : List ℕ) (pass : Clear allChecks list) where
         form = subst (λ (d : Drawing). Form st d sheet) (sym read-off) (form st orderable);
         meetings = subst (λ (d : Drawing). Meets d) (sym read-off) (meets st orderable);
         sizes = subst (λ (d : Drawing). Sizes (st .parts) (length (st .cables)) d sheet) (sym read-off) (sizes st orderable);
+        lengths =
+            subst (λ (d : Drawing). Measured (st .parts) (length (st .cables)) d (lengthsIn (st .parts) (length (st .cables)) sheet)) (sym read-off)
+            (measured st orderable);
       }
 
   -- of demand 2: 'The parts stand in the smallest st-ordering between the two named ends'

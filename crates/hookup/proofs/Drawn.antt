@@ -1,5 +1,5 @@
 -- The drawing of a station that was not sent back: it is the layout of its cables in ranks, under the parts' own numbers, and has its meetings,
--- sizes and crossings. Assumes nothing.
+-- sizes, crossings and lengths. Assumes nothing.
 use Prim.Native.Nat.{ℕ, _+_, _*_, _<_, _≤_}
 use native.Mathlib.Omega.{arith}
 use mathlib.Core.Path.{_≡_, refl, sym, ap, subst, _∙_}
@@ -19,12 +19,15 @@ use Rattle.order.proofs.StOrder.{order-ordering}
 use Rattle.order.proofs.Ranks.{order-ranked, graph-parts, graph-size, rank-below, part-of-rank, rank-of-part}
 use Rattle.order.proofs.Graphs.{cables-le}
 use Rattle.order.proofs.Ends.{lower-part, upper-part}
-use Rattle.drawing.specs.Drawing.{Drawing, Meets, crossings, renumbered}
+use Rattle.drawing.specs.Drawing.{Drawing, pointsAt, Meets, crossings, renumbered}
+use Rattle.drawing.specs.Lengths.{lineLength, mostLength}
 use Rattle.drawing.specs.Sheet.{sheetWords}
-use Rattle.drawing.specs.Reading.{Ends, noEnds}
+use Rattle.drawing.specs.Reading.{Ends, noEnds, lengthsIn}
 use Rattle.drawing.specs.Sizes.{Sizes}
+use Rattle.drawing.specs.Measured.{Measured}
 use Rattle.drawing.proofs.ReadBack.{DrawingFits, read-back}
-use Rattle.drawing.proofs.Renumbered.{Names, meets-renumbered, crossings-renumbered, length-renumbered}
+use Rattle.drawing.proofs.Measured as of-drawing
+use Rattle.drawing.proofs.Renumbered.{Names, routes-renumbered, points-renumbered, meets-renumbered, crossings-renumbered, length-renumbered}
 use Rattle.drawing.specs.Counts.{isCorner}
 use Rattle.drawing.proofs.Sized.{named, fits-renumbered, corner-words-renumbered, sizes-renumbered}
 use Rattle.layout.specs.Points.{bottomRows, topRows}
@@ -104,7 +107,7 @@ module _ (st : Station) where
         subst (λ (d : Drawing). DrawingFits (st .parts) (endsOf st) d) (sym is-renumbered)
         (subst (λ (l : List Ends). DrawingFits (st .parts) l (renumbered (order st) (layout (graphOf st)))) (sym ends-are)
         (subst (λ (n : ℕ). DrawingFits n (map (named (order st)) (tabulate (size (graphOf st)) (laid.endsOf (graphOf st)))) (renumbered (order st) (layout (graphOf st)))) (graph-parts st)
-        (fits-renumbered (order st) (layout (graphOf st)) names (graphOf st .parts) _ (laid.fits (graphOf st) R two most))))
+        (fits-renumbered (order st) (layout (graphOf st)) names (laid.meets (graphOf st) R) (graphOf st .parts) _ (laid.fits (graphOf st) R two most))))
 
     -- what is read off the sheet is the drawing
     pub reads : readBy (order st) st (sheetWords (drawing st)) ≡ drawing st
@@ -137,7 +140,8 @@ module _ (st : Station) where
           graph-size st,
         )
 
-    pub all-words : length (sheetWords (drawing st)) + st .parts ≡ 3 * length (st .cables) + 3 + bottomRows (graphOf st) + topRows (graphOf st)
+    -- and m + 1 lengths (2026-01)
+    pub all-words : length (sheetWords (drawing st)) + st .parts ≡ 4 * length (st .cables) + 4 + bottomRows (graphOf st) + topRows (graphOf st)
     all-words = omega (arith, length-is, laid.words-count (graphOf st) R two, graph-parts st, graph-size st)
 
     pub sizes : Sizes (st .parts) (length (st .cables)) (drawing st) (sheetWords (drawing st))
@@ -149,6 +153,25 @@ module _ (st : Station) where
         (subst (λ (n : ℕ). Sizes n (length ranks) (renumbered (order st) (layout G)) (sheetWords (renumbered (order st) (layout G)))) (graph-parts st)
         (sizes-renumbered (order st) (layout G) names (laid.meets G R) (G .parts) ranks (laid.fits G R two most) few
         (subst (λ (m : ℕ). Sizes (G .parts) m (layout G) (sheetWords (layout G))) (sym ranks-all) (laid.sizes G R two most)))))
+
+    -- the lengths on the sheet
+    length-most : (i : ℕ) → i < length (drawing st .routes) → lineLength (pointsAt (drawing st) i) ≤ mostLength (st .parts)
+    length-most i h =
+        let G : StGraph = graphOf st in
+        let g : i < length (layout G .routes) = omega (arith, ap (λ (d : Drawing). length (d .routes)) is-renumbered, routes-renumbered (order st) (layout G)) in
+        omega (
+          arith,
+          ap (λ (d : Drawing). lineLength (pointsAt d i)) is-renumbered ∙ ap lineLength (points-renumbered (order st) (layout G) names (laid.meets G R) i g),
+          laid.length-most G R two i (omega (arith, laid.routes-count G)),
+          graph-parts st,
+        )
+
+    pub measured : Measured (st .parts) (length (st .cables)) (drawing st) (lengthsIn (st .parts) (length (st .cables)) (sheetWords (drawing st)))
+    measured =
+        let e : length (endsOf st) ≡ length (st .cables) = length-map (st .cables) (endsBy (order st)) in
+        subst (λ (m : ℕ). Measured (st .parts) m (drawing st) (lengthsIn (st .parts) m (sheetWords (drawing st)))) (fits .routes-count ∙ e)
+        (of-drawing.measured (st .parts) (endsOf st) (drawing st) fits
+        (omega (arith, e, graph-size st, laid.few-lines (graphOf st) R two most)) length-most)
 
     -- four cables at a part at most
     pub words-most : length (sheetWords (drawing st)) ≤ mostWords

@@ -5,7 +5,7 @@ use native.Mathlib.Decide.{ℕ-discrete}
 use mathlib.Core.Path.{_≡_, sym, ap, _∙_}
 use mathlib.Core.Logic.{_⊎_, inl, inr}
 use mathlib.Core.Bool.{true, _||_}
-use mathlib.Core.List.{List, map, List·Memᴰ}
+use mathlib.Core.List.{List, _++_, map, List·Memᴰ}
 use lib.Dec.{eqb}
 use borrow.Author.Tests.{eqb-true, eq-eqb}
 use lib.ListN.{length, getD, length-map, List·getD-append}
@@ -29,7 +29,7 @@ use Rattle.order.specs.Graph.{size, lower, linesAt}
 use Rattle.order.specs.Ends.{graphOf}
 use Rattle.drawing.specs.Spots.{Spot, origin}
 use Rattle.drawing.specs.Drawing.{Drawing, spotOf}
-use Rattle.drawing.specs.Sheet.{partSpotWord, headSection, partsSection, cablesSection, sheetWords}
+use Rattle.drawing.specs.Sheet.{partSpotWord, headSection, partsSection, cablesSection, lengthsSection, sheetWords}
 use Rattle.drawing.specs.Reading.{partsByRow}
 use Rattle.drawing.proofs.ReadBack.{SpotFits}
 use Rattle.drawing.proofs.Renumbered.{spot-renumbered}
@@ -46,7 +46,7 @@ unfolding sheetWords headSection partsSection spotOf
 part-word d p h =
     let q : 1 + p ≡ suc p = omega arith in
     let g : p < length (map partSpotWord (d .parts)) = omega (arith, length-map (d .parts) partSpotWord) in
-    rw q (List·getD-append (map partSpotWord (d .parts)) (cablesSection d) 0 p g ∙ getD-map partSpotWord (d .parts) p origin 0 h)
+    rw q (List·getD-append (map partSpotWord (d .parts)) (cablesSection d ++ lengthsSection d) 0 p g ∙ getD-map partSpotWord (d .parts) p origin 0 h)
 
 word-row : (s : Spot) → SpotFits s → secondOf (partSpotWord s) ≡ s .y
 unfolding partSpotWord

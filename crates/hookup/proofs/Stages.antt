@@ -3,7 +3,7 @@ use Prim.Native.Nat.{ℕ, _<_, _≤_}
 use native.Mathlib.Omega.{arith}
 use mathlib.Core.Path.{_≡_, sym, ap, ap₂, subst, _∙_}
 use mathlib.Core.List.{List}
-use lib.ListN.{length}
+use lib.ListN.{length, getD}
 use Rattle.words.specs.Limits.{mostCables}
 use Rattle.station.specs.Station.{stationOf}
 use Rattle.station.specs.Checks.{Clear}
@@ -16,7 +16,8 @@ use Rattle.order.specs.Arrays.{graphIn}
 use Rattle.order.specs.declared.Ranking.{Ranking}
 use Rattle.order.specs.declared.Graph.{Graph}
 use Rattle.order.proofs.Passed.{list-wired, list-orderable, list-ranked}
-use Rattle.order.proofs.Ranks.{graph-parts, rank-below}
+use Rattle.order.proofs.StOrder.{order-ordering}
+use Rattle.order.proofs.Ranks.{graph-parts, rank-below, part-of-rank, rank-of-part}
 use Rattle.drawing.specs.Drawing.{Drawing, crossings, renumbered}
 use Rattle.drawing.specs.Sheet.{sheetWords}
 use Rattle.layout.specs.Layout.{layout}
@@ -56,6 +57,12 @@ module _ (list : List ℕ) (pass : Clear allChecks list) where
             let b : p < stationOf list .parts = omega (arith, count) in
             omega (arith, K .rank p b, rank-below (stationOf list) (list-orderable list pass) p b, count);
         rank = λ p h. K .rank p (omega (arith, count)) ∙ ap (λ (l : List ℕ). rankIn l p) (sym names-are);
+        part = λ p h. ap (λ (l : List ℕ). getD l (rankIn l p) 0) names-are ∙ part-of-rank (stationOf list) (list-orderable list pass) p (omega (arith, count));
+        named = λ k h.
+            let b = order-ordering (stationOf list) (list-orderable list pass) .inside k (omega (arith, count)) in
+            omega (arith, ap (λ (l : List ℕ). getD l k 0) names-are, b, count);
+        place = λ k h.
+            ap (λ (l : List ℕ). rankIn l (getD l k 0)) names-are ∙ rank-of-part (stationOf list) (list-orderable list pass) k (omega (arith, count));
       }
 
       pub sheet-is : sheetWords (renumbered (namesIn (g .parts) r) (layout (graphIn g))) ≡ sheetWords (drawing (stationOf list))

@@ -1,11 +1,11 @@
--- The eleven refusals, the boundaries, and stations A to D of document 01, as the definitions give them. Assumes nothing.
+-- The eleven refusals, the boundaries, and stations A to D of document 01, with the lengths of request 2026-01, as the definitions give them. Assumes nothing.
 use Prim.Native.Nat.{ℕ, _-_}
 use mathlib.Core.Path.{_≡_, refl}
 use mathlib.Core.Bool.{false}
 use mathlib.Core.List.{List, [], _∷_}
 use lib.ListN.{length}
 use lib.Dec.{eqb}
-use Rattle.lists.specs.Select.{count}
+use Rattle.lists.specs.Select.{count, sum}
 use Rattle.words.specs.Words.{kindOf, corner}
 use Rattle.station.specs.Station.{stationOf}
 use Rattle.order.specs.Reach.{connected}
@@ -13,8 +13,9 @@ use Rattle.order.specs.Order.{order}
 use Rattle.order.proofs.Triangle.{triangle}
 use Rattle.drawing.specs.Spots.{spotAt}
 use Rattle.drawing.specs.Drawing.{Drawing, routeAt, crossings}
-use Rattle.hookup.specs.Drawing.{drawing}
+use Rattle.drawing.specs.Lengths.{cableLengths}
 use Rattle.drawing.specs.Sheet.{sheetWords}
+use Rattle.hookup.specs.Drawing.{drawing}
 use Rattle.hookup.specs.Outcome.{drawn, sentBack, outcome}
 use Rattle.hookup.proofs.Computing.{hookup-computing}
 
@@ -59,17 +60,18 @@ pub record Table : Type 0 where
   refusal-8 : outcome (0x10060005 ∷ 0x20000005 ∷ 0x30000001 ∷ 0x30000002 ∷ 0x30000003 ∷ 0x30000004 ∷ 0x30000005 ∷ []) room ≡ sentBack 8 0
   refusal-9 : outcome (0x10030001 ∷ 0x20000002 ∷ 0x30000001 ∷ []) room ≡ sentBack 9 2
   refusal-10 : outcome (0x10030002 ∷ 0x20000002 ∷ 0x30000001 ∷ 0x30001002 ∷ []) room ≡ sentBack 10 1
-  refusal-11 : outcome triangle 8 ≡ sentBack 11 9
+  -- 2026-01: 'check 11 measures them too: the triangle needs 13'
+  refusal-11 : outcome triangle 12 ≡ sentBack 11 13
   -- 'With 256 parts check 4 passes and with 257 it refuses'
   parts-256 : outcome (0x11000000 ∷ 0x20000002 ∷ []) room ≡ sentBack 9 1
   parts-257 : outcome (0x11010000 ∷ 0x20000002 ∷ []) room ≡ sentBack 4 257
   -- 'four cables at a part pass check 8'
   four-cables : outcome (0x10050004 ∷ 0x20000004 ∷ 0x30000001 ∷ 0x30000002 ∷ 0x30000003 ∷ 0x30000004 ∷ []) room ≡ sentBack 10 0
-  -- 'an output of 9 takes the triangle'
-  triangle-9 :
-      outcome triangle 9
+  -- 2026-01: 'The triangle ends `80000001 80001001 80002004 a0000006`', and an output of 13 takes it
+  triangle-13 :
+      outcome triangle 13
       ≡ drawn
-      (0x40001002 ∷ 0x50000000 ∷ 0x50000001 ∷ 0x50000002 ∷ 0x60000000 ∷ 0x60001000 ∷ 0x60002002 ∷ 0x70001000 ∷ 0x70001002 ∷ [])
+      (0x40001002 ∷ 0x50000000 ∷ 0x50000001 ∷ 0x50000002 ∷ 0x60000000 ∷ 0x60001000 ∷ 0x60002002 ∷ 0x70001000 ∷ 0x70001002 ∷ 0x80000001 ∷ 0x80001001 ∷ 0x80002004 ∷ 0xa0000006 ∷ [])
       0
   b-order : order (stationOf square) ≡ 0 ∷ 1 ∷ 3 ∷ 2 ∷ []
   b-line-2 : routeAt (drawingOfList square) 2 .corners ≡ spotAt 1 3 ∷ []
@@ -80,29 +82,32 @@ pub record Table : Type 0 where
   d-width : drawingOfList stationD .width ≡ 6
   d-height : drawingOfList stationD .height ≡ 6
   d-corners : count (λ w. eqb (kindOf w) corner) (sheetWords (drawingOfList stationD)) ≡ 14
-  d-words : length (sheetWords (drawingOfList stationD)) ≡ 30
+  d-words : length (sheetWords (drawingOfList stationD)) ≡ 41
+  -- 2026-01
+  d-lengths : cableLengths (drawingOfList stationD) ≡ 3 ∷ 5 ∷ 7 ∷ 14 ∷ 2 ∷ 2 ∷ 5 ∷ 4 ∷ 3 ∷ 1 ∷ []
+  d-total : sum (cableLengths (drawingOfList stationD)) ≡ 46
   d-crossings : crossings (drawingOfList stationD) ≡ 3
   d-parts : drawingOfList stationD .parts ≡ spotAt 4 1 ∷ spotAt 2 2 ∷ spotAt 1 3 ∷ spotAt 2 4 ∷ spotAt 2 5 ∷ []
   d-line-3 : routeAt (drawingOfList stationD) 3 .corners ≡ spotAt 4 0 ∷ spotAt 6 0 ∷ spotAt 6 6 ∷ spotAt 2 6 ∷ []
   -- B, C and D pass every check: an output of their words takes them, and one of a word less does not
   b-drawn :
-      outcome square 11
+      outcome square 16
       ≡ drawn
-      (0x40001003 ∷ 0x50000000 ∷ 0x50000001 ∷ 0x50000003 ∷ 0x50001002 ∷ 0x60000000 ∷ 0x60001000 ∷ 0x60002001 ∷ 0x70001003 ∷ 0x60003001 ∷ 0x70001000 ∷ [])
+      (0x40001003 ∷ 0x50000000 ∷ 0x50000001 ∷ 0x50000003 ∷ 0x50001002 ∷ 0x60000000 ∷ 0x60001000 ∷ 0x60002001 ∷ 0x70001003 ∷ 0x60003001 ∷ 0x70001000 ∷ 0x80000001 ∷ 0x80001002 ∷ 0x80002002 ∷ 0x80003003 ∷ 0xa0000008 ∷ [])
       0
-  b-short : outcome square 10 ≡ sentBack 11 11
+  b-short : outcome square 15 ≡ sentBack 11 16
   c-drawn :
-      outcome stationC 14
+      outcome stationC 20
       ≡ drawn
-      (0x40002003 ∷ 0x50001000 ∷ 0x50000002 ∷ 0x50000003 ∷ 0x50000001 ∷ 0x60000001 ∷ 0x70001002 ∷ 0x60001001 ∷ 0x70000000 ∷ 0x60002000 ∷ 0x60003000 ∷ 0x60004002 ∷ 0x70002000 ∷ 0x70002003 ∷ [])
+      (0x40002003 ∷ 0x50001000 ∷ 0x50000002 ∷ 0x50000003 ∷ 0x50000001 ∷ 0x60000001 ∷ 0x70001002 ∷ 0x60001001 ∷ 0x70000000 ∷ 0x60002000 ∷ 0x60003000 ∷ 0x60004002 ∷ 0x70002000 ∷ 0x70002003 ∷ 0x80000003 ∷ 0x80001002 ∷ 0x80002001 ∷ 0x80003001 ∷ 0x80004006 ∷ 0xa000000d ∷ [])
       0
-  c-short : outcome stationC 13 ≡ sentBack 11 14
+  c-short : outcome stationC 19 ≡ sentBack 11 20
   d-drawn :
-      outcome stationD 30
+      outcome stationD 41
       ≡ drawn
-      (0x40006006 ∷ 0x50004001 ∷ 0x50002002 ∷ 0x50001003 ∷ 0x50002004 ∷ 0x50002005 ∷ 0x60000001 ∷ 0x70002001 ∷ 0x60001001 ∷ 0x70004003 ∷ 0x60002002 ∷ 0x70005001 ∷ 0x70005004 ∷ 0x60003004 ∷ 0x70004000 ∷ 0x70006000 ∷ 0x70006006 ∷ 0x70002006 ∷ 0x60004001 ∷ 0x70001002 ∷ 0x60005000 ∷ 0x60006002 ∷ 0x70003002 ∷ 0x70003005 ∷ 0x60007002 ∷ 0x70000003 ∷ 0x70000004 ∷ 0x60008001 ∷ 0x70001005 ∷ 0x60009000 ∷ [])
+      (0x40006006 ∷ 0x50004001 ∷ 0x50002002 ∷ 0x50001003 ∷ 0x50002004 ∷ 0x50002005 ∷ 0x60000001 ∷ 0x70002001 ∷ 0x60001001 ∷ 0x70004003 ∷ 0x60002002 ∷ 0x70005001 ∷ 0x70005004 ∷ 0x60003004 ∷ 0x70004000 ∷ 0x70006000 ∷ 0x70006006 ∷ 0x70002006 ∷ 0x60004001 ∷ 0x70001002 ∷ 0x60005000 ∷ 0x60006002 ∷ 0x70003002 ∷ 0x70003005 ∷ 0x60007002 ∷ 0x70000003 ∷ 0x70000004 ∷ 0x60008001 ∷ 0x70001005 ∷ 0x60009000 ∷ 0x80000003 ∷ 0x80001005 ∷ 0x80002007 ∷ 0x8000300e ∷ 0x80004002 ∷ 0x80005002 ∷ 0x80006005 ∷ 0x80007004 ∷ 0x80008003 ∷ 0x80009001 ∷ 0xa000002e ∷ [])
       3
-  d-short : outcome stationD 29 ≡ sentBack 11 30
+  d-short : outcome stationD 40 ≡ sentBack 11 41
 
 pub table : Table
 unfolding hookup-computing
@@ -121,7 +126,7 @@ table = record {
   parts-256 = refl;
   parts-257 = refl;
   four-cables = refl;
-  triangle-9 = refl;
+  triangle-13 = refl;
   b-order = refl;
   b-line-2 = refl;
   b-line-3 = refl;
@@ -131,6 +136,8 @@ table = record {
   d-height = refl;
   d-corners = refl;
   d-words = refl;
+  d-lengths = refl;
+  d-total = refl;
   d-crossings = refl;
   d-parts = refl;
   d-line-3 = refl;

@@ -1,4 +1,4 @@
--- Demands 2 and 3 as claims about the words of a list and the words of its sheet. Assumes nothing.
+-- Demands 2 and 3, and request 2026-01, as claims about the words of a list and the words of its sheet. Assumes nothing.
 use Prim.Native.Nat.{ℕ, _+_, _<_}
 use mathlib.Core.Path.{_≡_}
 use mathlib.Core.Logic.{_⊎_}
@@ -11,13 +11,14 @@ use Rattle.station.specs.Station.{Station, stationOf, degree, noCable}
 use Rattle.order.specs.StOrder.{Smallest}
 use Rattle.drawing.specs.Drawing.{Drawing, routeAt, Meets}
 use Rattle.drawing.specs.Sheet.{sheetWords}
-use Rattle.drawing.specs.Reading.{partsByRow}
+use Rattle.drawing.specs.Reading.{partsByRow, lengthsIn}
 use Rattle.drawing.specs.Sizes.{Sizes}
+use Rattle.drawing.specs.Measured.{Measured}
 use Rattle.hookup.specs.Reading.{drawingOf}
 
 -- the words are exactly those of a drawing of this station
 pub record Form (st : Station) (d : Drawing) (sheet : List ℕ) : Type 0 where
-  -- head, part, cable and corner words with their kinds, line numbers, counts of corners and no spare bit, and no word more
+  -- head, part, cable, corner, length and total words with their kinds, line numbers, counts of corners and no spare bit, and no word more
   pub words : sheet ≡ sheetWords d
   pub parts : length (d .parts) ≡ st .parts
   pub cables : length (d .routes) ≡ length (st .cables)
@@ -32,6 +33,10 @@ pub record Demand3 (list sheet : List ℕ) : Type 0 where
   pub form : Form (stationOf list) (drawingOf list sheet) sheet
   pub meetings : Meets (drawingOf list sheet)
   pub sizes : Sizes (stationOf list .parts) (length (stationOf list .cables)) (drawingOf list sheet) sheet
+  -- 2026-01: the words 'after the last cable's corners' are the lengths of the lines that the sheet shows, and their total
+  pub lengths :
+      Measured (stationOf list .parts) (length (stationOf list .cables)) (drawingOf list sheet)
+      (lengthsIn (stationOf list .parts) (length (stationOf list .cables)) sheet)
 
 -- 'Let d be 1 if s has four cables and 0 otherwise'
 unfoldable pub rowsBelow : Station → ℕ

@@ -12,16 +12,20 @@ use Rattle.lists.proofs.Select.{getD-mem, getD-tabulate, length-tabulate}
 use Rattle.lists.proofs.Places.{mem-place, first-between-last}
 use Rattle.lists.proofs.Maps.{map-tabulate, count-tabulate}
 use Rattle.lists.proofs.Same.{same-eqb}
+use Rattle.lists.proofs.Sums.{sum-le}
 use Rattle.order.specs.Graph.{StGraph, size, lower, upper, Ranked}
 use Rattle.order.proofs.Graphs.{lower-inside, cables-le}
 use Rattle.drawing.specs.Spots.{Spot, origin}
 use Rattle.drawing.specs.Lines.{point, Meetings}
 use Rattle.drawing.specs.Drawing.{Route, noRoute, Drawing, spotOf, routePoints, routeAt, pointsAt, Meets}
+use Rattle.drawing.specs.Lengths.{lineLength, cableLengths, mostLength}
 use Rattle.drawing.specs.Sheet.{sheetWords}
 use Rattle.drawing.specs.Reading.{Ends, noEnds}
 use Rattle.drawing.specs.Counts.{cornerCount, isCorner}
 use Rattle.drawing.specs.Sizes.{Sizes}
 use Rattle.drawing.proofs.Renaming.{renamed}
+use Rattle.drawing.proofs.Lengths.{lengths-count, length-at}
+use Rattle.drawing.proofs.LengthWords.{LengthsFit}
 use Rattle.drawing.proofs.ReadBack.{SpotFits, AllFit, DrawingFits}
 use Rattle.drawing.proofs.WordCounts.{words-length, words-corners}
 use Rattle.layout.specs.Columns.{columns}
@@ -33,6 +37,7 @@ use Rattle.layout.proofs.ExtraRows.{bottomRows-le, topRows-le}
 use Rattle.layout.proofs.Placed.{facts}
 use Rattle.layout.proofs.Meet.{meetings}
 use Rattle.layout.proofs.Sizes.{part-column-below, rising, corners-four, corners-many-count, spots-within, points-within, columns-count, corners-sum, width-spot, height-spot}
+use Rattle.layout.proofs.LineLengths.{line-most}
 
 -- on plain numbers: the count of columns is one more than the width, the count of rows one more than the height
 width-number : (c n m : ℕ) → c + n ≡ m + 2 → 0 < c → suc (m + 1 - n) ≡ c
@@ -201,9 +206,13 @@ module _ (G : StGraph) (R : Ranked G) where
     rank-inside : (k : ℕ) → k < G .parts → (rankSpot G k .x ≤ layout G .width) × (rankSpot G k .y ≤ layout G .height)
     rank-inside k h = let w = spots-within G R k h in (omega (arith, w .0, width-is), omega (arith, w .1, height-is))
 
-    -- '3m - n + 3 + d + e words'
-    pub words-count : length (sheetWords (layout G)) + G .parts ≡ 3 * size G + 3 + bottomRows G + topRows G
+    -- '3m - n + 3 + d + e words', and m + 1 lengths (2026-01)
+    pub words-count : length (sheetWords (layout G)) + G .parts ≡ 4 * size G + 4 + bottomRows G + topRows G
     words-count = omega (arith, words-length (layout G), parts-count G, routes-count G, corner-count G, corners-sum G R two)
+
+    -- no line is longer
+    pub length-most : (i : ℕ) → i < size G → lineLength (pointsAt (layout G) i) ≤ mostLength (G .parts)
+    length-most i h = omega (arith, ap lineLength (points-at i h), line-most G R two i h)
 
     module _ (most : G .parts ≤ mostParts) where
       -- Fields
@@ -225,6 +234,7 @@ module _ (G : StGraph) (R : Ranked G) where
       course-fits i h =
           record {
             rises = rising G R i h;
+            length = omega (arith, line-most G R two i h);
             from = turn-fits i h _ (List·Memᴰ·head refl) .0;
             low = turn-fits i h _ (List·Memᴰ·tail (List·Memᴰ·head refl)) .1;
             column = turn-fits i h _ (List·Memᴰ·tail (List·Memᴰ·tail (List·Memᴰ·head refl))) .0;
@@ -239,6 +249,22 @@ module _ (G : StGraph) (R : Ranked G) where
       corners-fit i h k g =
           let s : Spot = getD (cornersOf (courseOf G i)) k origin in
           spot-fits s (points-within G R i h s (corner-point i h s (getD-mem (cornersOf (courseOf G i)) k origin g)))
+
+      lengths-fit : LengthsFit (cableLengths (layout G))
+      unfolding cableLengths
+      lengths-fit = record {
+        each = λ i h.
+            let g : i < size G = omega (arith, lengths-count (layout G), routes-count G) in
+            omega (arith, length-at (layout G) i (omega (arith, routes-count G)), length-most i g);
+        total =
+            omega (
+              arith,
+              sum-le (λ i. lineLength (pointsAt (layout G) i)) (length (layout G .routes)) (mostLength mostParts)
+                  (λ i h. omega (arith, length-most i (omega (arith, routes-count G)))),
+              routes-count G,
+              cables-le G R,
+            );
+      }
 
       pub few-lines : size G ≤ 65536
       few-lines = omega (arith, cables-le G R)
@@ -263,6 +289,7 @@ module _ (G : StGraph) (R : Ranked G) where
               few = omega (arith, ap length (corners-at i g), corners-four G R i g);
               corners-fit = subst AllFit (sym (corners-at i g)) (corners-fit i g);
             };
+        lengths-fit = lengths-fit;
       }
 
       -- '2m - 2n + 2 + d + e corners'

@@ -1,4 +1,4 @@
--- Laws of the layout: what its construction establishes (Facts, by Placed), its sizes (Sizes), what follows of meetings (Meet) and crossings (Cross),
+-- Laws of the layout: what its construction establishes (Facts, by Placed), its sizes (Sizes, LineLengths), what follows of meetings (Meet) and crossings (Cross),
 -- and what the code rests on (Connections to Lanes).
 pub mod Facts
 pub mod Step
@@ -12,6 +12,7 @@ pub mod Own
 pub mod Turns
 pub mod ExtraRows
 pub mod Sizes
+pub mod LineLengths
 pub mod Segments
 pub mod Line
 pub mod Place

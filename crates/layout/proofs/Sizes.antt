@@ -137,7 +137,7 @@ module _ (G : StGraph) (H : Ranked G) where
   unfolding rankSpot partSpot row
   spots-within k h = (part-column-below (G .parts) k h, omega arith)
 
-  high-below : (i : ℕ) → i < size G → courseOf G i .high < G .parts + bottomRows G + topRows G
+  pub high-below : (i : ℕ) → i < size G → courseOf G i .high < G .parts + bottomRows G + topRows G
   unfolding courseOf course row
   high-below i h = go (eqb i (topLine G (columns G (G .parts) .cables))) refl
     where

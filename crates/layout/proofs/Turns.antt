@@ -87,7 +87,7 @@ points-all Q c q₀ q₁ q₂ q₃ q₄ q₅ s h =
 
 -- The first and the last point are the parts' spots, and what stands between them are the corners.
 
-repeats-first : (p : Spot) (l : List Spot) → (r : List Spot) × (dropRepeats (p ∷ l) ≡ p ∷ r)
+pub repeats-first : (p : Spot) (l : List Spot) → (r : List Spot) × (dropRepeats (p ∷ l) ≡ p ∷ r)
 unfolding dropRepeats
 repeats-first p [] = ([], refl)
 repeats-first p (q ∷ l) = go (sameSpot p q) refl (repeats-first q l)

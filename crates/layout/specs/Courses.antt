@@ -8,10 +8,11 @@ use lib.ListN.{length, getD}
 use lib.Dec.{eqb}
 use Rattle.order.specs.Graph.{StGraph}
 use Rattle.drawing.specs.Spots.{spotAt}
+use Rattle.drawing.specs.Lengths.{lineLength}
 use Rattle.layout.specs.declared.ends.Ends.{Ends}
 use Rattle.layout.specs.declared.courses.Cable.{Cable}
 use Rattle.layout.specs.Columns.{bottomLine, topLine, columns}
-use Rattle.layout.specs.Points.{Course, bottomRows, topRows}
+use Rattle.layout.specs.Points.{Course, pointsOf, bottomRows, topRows}
 
 -- what the courses of the graph's cables share
 pub record EndsOf (G : StGraph) (e : Ends) : Type 0 where
@@ -27,9 +28,10 @@ pub record Reaches (n : ℕ) (e : Ends) (c : Cable) : Type 0 where
   pub most : n ≤ mostParts
   pub below : e .«bottom_rows» ≤ 1
 
--- a course goes up, and every number of it that is written fits a 12-bit field
+-- a course goes up, and every number of it that is written fits a 12-bit field, its length too
 pub record CourseFits (c : Course) : Type 0 where
   pub rises : c .low < c .high
+  pub length : lineLength (pointsOf c) < 4096
   pub from : c .from .x < 4096
   pub low : c .low < 4096
   pub column : c .column < 4096

@@ -29,7 +29,10 @@ pub record RankingOf (st : Station) (r : Ranking) : Type 0 where
 abbrev pub namesIn : ℕ → Ranking → List ℕ
 namesIn n r = take n (partNumbers (r .part))
 
--- of n parts: rank by part is the inverse of part by rank
+-- of n parts: rank by part and part by rank are each the inverse of the other
 pub record Inverse (n : ℕ) (r : Ranking) : Type 0 where
   pub below : (p : ℕ) → p < n → getD (rankNumbers (r .rank)) p 0 < n
   pub rank : (p : ℕ) → p < n → getD (rankNumbers (r .rank)) p 0 ≡ rankIn (namesIn n r) p
+  pub part : (p : ℕ) → p < n → getD (namesIn n r) (rankIn (namesIn n r) p) 0 ≡ p
+  pub named : (k : ℕ) → k < n → getD (namesIn n r) k 0 < n
+  pub place : (k : ℕ) → k < n → rankIn (namesIn n r) (getD (namesIn n r) k 0) ≡ k

@@ -1,11 +1,12 @@
--- Document 01's example of the sheet program, from the bytes of the triangle's list to the text of its sheet, and lines of the other kinds. Assumes nothing.
+-- Document 01's example of the sheet program with request 2026-01's lengths, from the bytes of the triangle's list to the text of its sheet, and lines of the other kinds. Assumes nothing.
 use Prim.Native.Nat.{ℕ}
 use mathlib.Core.Path.{_≡_, refl, _∙_}
 use mathlib.Core.List.{List, [], _∷_}
 use Rattle.lists.specs.Select.{upFrom, range, tabulate}
 use Rattle.hookup.specs.Outcome.{fitted, orDrawn, outcome}
 use Rattle.order.proofs.Triangle.{triangle, triangle-passes}
-use Rattle.hookup.proofs.Triangle.{nine, triangle-words}
+use Rattle.drawing.proofs.Worked.{thirteen}
+use Rattle.hookup.proofs.Triangle.{triangle-words}
 use Rattle.text.specs.Ascii.{ascii}
 use Rattle.text.specs.Bytes.{wordsIn}
 use Rattle.text.specs.Lines.{hexDigit, hexHalf, hexLine, hexLines, digits, decimal, refusedLine}
@@ -31,17 +32,17 @@ file-whole : loaded triangleFile ≡ Words 5
 unfolding loaded
 file-whole = refl
 
-nine-text : hexLines nine ≡ ascii "40001002\n50000000\n50000001\n50000002\n60000000\n60001000\n60002002\n70001000\n70001002\n"
+triangle-text : hexLines thirteen ≡ ascii "40001002\n50000000\n50000001\n50000002\n60000000\n60001000\n60002002\n70001000\n70001002\n80000001\n80001001\n80002004\na0000006\n"
 unfolding hexDigit hexHalf hexLine hexLines
-nine-text = refl
+triangle-text = refl
 
-answer-text : answerText (outcome triangle room) ≡ hexLines nine
+answer-text : answerText (outcome triangle room) ≡ hexLines thirteen
 unfolding outcome orDrawn fitted
 answer-text = rw (triangle-passes, triangle-words) refl
 
-pub triangle-printed : printed triangleFile room ≡ ascii "40001002\n50000000\n50000001\n50000002\n60000000\n60001000\n60002002\n70001000\n70001002\n"
+pub triangle-printed : printed triangleFile room ≡ ascii "40001002\n50000000\n50000001\n50000002\n60000000\n60001000\n60002002\n70001000\n70001002\n80000001\n80001001\n80002004\na0000006\n"
 unfolding printed
-triangle-printed = rw (file-whole, file-words) (answer-text ∙ nine-text)
+triangle-printed = rw (file-whole, file-words) (answer-text ∙ triangle-text)
 
 -- 'no words: 0'
 pub empty-printed : printed [] room ≡ ascii "refused 1 0\n"

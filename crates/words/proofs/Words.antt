@@ -1,8 +1,8 @@
--- Taking apart what was made gives the fields back, and a made word has its kind, no spare bit and 32 bits. One law for each of the three layouts. Assumes nothing.
+-- Taking apart what was made gives the fields back, and a made word has its kind, no spare bit and 32 bits. One law for each layout. Assumes nothing.
 use Prim.Native.Nat.{ℕ, _<_, _^_}
 use mathlib.Core.Path.{_≡_}
 use native.Mathlib.Omega.{arith}
-use Rattle.words.specs.Words.{kindOf, spareOf, firstOf, secondOf, fields, listHead, listHeadWord, partsOf, cablesOf, sheetCable, sheetCableWord, lineOf}
+use Rattle.words.specs.Words.{kindOf, spareOf, firstOf, secondOf, fields, listHead, listHeadWord, partsOf, cablesOf, lineFields, lineOf, totalLength, totalLengthWord, totalOf}
 
 -- a word with two 12-bit fields: kinds 2 to 5 and 7
 pub record Fields (kind a b w : ℕ) : Type 0 where
@@ -25,12 +25,21 @@ pub record ListHead (n m w : ℕ) : Type 0 where
 pub listHead-apart : (n m : ℕ) → n < 4096 → m < 65536 → ListHead n m (listHeadWord n m)
 listHead-apart n m hn hm = omega arith
 
--- kind 6
-pub record SheetCable (line corners w : ℕ) : Type 0 where
-  pub kind-is : kindOf w ≡ sheetCable
+-- a word with a line number: kinds 6 and 8
+pub record LineFields (kind line b w : ℕ) : Type 0 where
+  pub kind-is : kindOf w ≡ kind
   pub line-is : lineOf w ≡ line
-  pub corners-is : secondOf w ≡ corners
+  pub second-is : secondOf w ≡ b
   pub fits : w < 2 ^ 32
 
-pub sheetCable-apart : (line corners : ℕ) → line < 65536 → corners < 4096 → SheetCable line corners (sheetCableWord line corners)
-sheetCable-apart line corners hl hc = omega arith
+pub lineFields-apart : (kind line b : ℕ) → kind < 16 → line < 65536 → b < 4096 → LineFields kind line b (lineFields kind line b)
+lineFields-apart kind line b hk hl hb = omega arith
+
+-- kind 10
+pub record TotalLength (steps w : ℕ) : Type 0 where
+  pub kind-is : kindOf w ≡ totalLength
+  pub steps-is : totalOf w ≡ steps
+  pub fits : w < 2 ^ 32
+
+pub totalLength-apart : (steps : ℕ) → steps < 2 ^ 28 → TotalLength steps (totalLengthWord steps)
+totalLength-apart steps h = omega arith

@@ -16,9 +16,9 @@ mostDegree = 4
 abbrev pub mostCables : ℕ
 mostCables = mostDegree * mostParts / 2
 
--- 'The sheet has .. 3m - n + 3 + d + e words', where d and e are at most 1 and m at most 2n
+-- 'The sheet has .. 3m - n + 3 + d + e words', where d and e are at most 1 and m at most 2n, and m + 1 lengths (2026-01)
 abbrev pub mostWords : ℕ
-mostWords = 3 * mostCables - mostParts + 3 + 1 + 1
+mostWords = 4 * mostCables - mostParts + 4 + 1 + 1
 
 -- room for the neighbours of each part
 abbrev pub neighbourPlaces : ℕ

@@ -1,4 +1,4 @@
--- Document 01, 'The words': each kind of word made and taken apart, over ℕ. Assumes nothing.
+-- Document 01, 'The words', and request 2026-01's two kinds: each kind of word made and taken apart, over ℕ. Assumes nothing.
 use Prim.Native.Nat.{ℕ, _+_, _*_, _/_, _%_}
 
 -- 'The top four bits (31 to 28) are the kind.'
@@ -38,6 +38,13 @@ sheetCable = 6
 abbrev pub corner : ℕ
 corner = 7
 
+-- 2026-01: 'm words of kind 8 .. then one of kind 10', the lengths of the cables and their total
+abbrev pub cableLength : ℕ
+cableLength = 8
+
+abbrev pub totalLength : ℕ
+totalLength = 10
+
 -- a word of a kind with two 12-bit fields
 abbrev pub fields : ℕ → ℕ → ℕ → ℕ
 fields kind a b = kind * 0x1000_0000 + a * 4096 + b
@@ -68,9 +75,13 @@ sheetHeadWord w h = fields sheetHead w h
 abbrev pub partWord : ℕ → ℕ → ℕ
 partWord x y = fields part x y
 
+-- a word of a kind with a line number in bits 27 to 12 and a field in bits 11 to 0
+abbrev pub lineFields : ℕ → ℕ → ℕ → ℕ
+lineFields kind line b = kind * 0x1000_0000 + line * 4096 + b
+
 -- 'cable: line number in bits 27 to 12, count of corners in 11 to 0'
 abbrev pub sheetCableWord : ℕ → ℕ → ℕ
-sheetCableWord line corners = sheetCable * 0x1000_0000 + line * 4096 + corners
+sheetCableWord line corners = lineFields sheetCable line corners
 
 abbrev pub lineOf : ℕ → ℕ
 lineOf w = w / 4096 % 65536
@@ -78,3 +89,14 @@ lineOf w = w / 4096 % 65536
 -- 'a corner's x, y'
 abbrev pub cornerWord : ℕ → ℕ → ℕ
 cornerWord x y = fields corner x y
+
+-- 2026-01: 'the line in bits 27 to 12 and the grid steps along that cable's line in bits 11 to 0'
+abbrev pub cableLengthWord : ℕ → ℕ → ℕ
+cableLengthWord line steps = lineFields cableLength line steps
+
+-- 2026-01: 'the total in bits 27 to 0'
+abbrev pub totalLengthWord : ℕ → ℕ
+totalLengthWord steps = totalLength * 0x1000_0000 + steps
+
+abbrev pub totalOf : ℕ → ℕ
+totalOf w = w % 0x1000_0000

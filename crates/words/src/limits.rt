@@ -11,8 +11,8 @@ pub const MOST_DEGREE: usize = 4;
 // Every cable is one of the cables of two parts.
 pub const MOST_CABLES: usize = MOST_DEGREE * MOST_PARTS / 2;
 
-// 'The sheet has .. 3m - n + 3 + d + e words', where d and e are at most 1 and m at most 2n.
-pub const MOST_WORDS: usize = 3 * MOST_CABLES - MOST_PARTS + 3 + 1 + 1;
+// 'The sheet has .. 3m - n + 3 + d + e words', where d and e are at most 1 and m at most 2n, and m + 1 lengths (2026-01).
+pub const MOST_WORDS: usize = 4 * MOST_CABLES - MOST_PARTS + 4 + 1 + 1;
 
 // Room for the neighbours of each part.
 pub const NEIGHBOUR_PLACES: usize = MOST_DEGREE * MOST_PARTS;

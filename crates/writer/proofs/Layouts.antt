@@ -1,4 +1,4 @@
--- What the values of a layout say of its drawing: its parts, its sizes, its courses and which of them cross. Assumes nothing.
+-- What the values of a layout say of its drawing: its parts, its sizes, its courses with their lengths, and which of them cross. Assumes nothing.
 use Prim.Native.Nat.{ℕ, _+_, _-_, _*_, _<_, _≤_}
 use native.Mathlib.Omega.{arith}
 use mathlib.Core.Path.{_≡_, refl, sym, ap, ap₂, subst, _∙_}
@@ -6,6 +6,7 @@ use mathlib.Core.Bool.{Bool, not, _&&_, _||_}
 use mathlib.Core.List.{List}
 use lib.ListN.{length, getD}
 use lib.Seq.{getD-take}
+use Rattle.lists.proofs.Sums.{sum-le}
 use Rattle.order.specs.declared.Ranking.{Ranking}
 use Rattle.order.specs.Graph.{StGraph, size, lower, upper, Ranked}
 use Rattle.order.specs.Arrays.{graphIn}
@@ -14,13 +15,14 @@ use Rattle.order.specs.Ranking.{namesIn, Inverse}
 use Rattle.order.proofs.LineRanks.{rankAt, rank-number}
 use Rattle.drawing.specs.Spots.{spotAt}
 use Rattle.drawing.specs.Crossing.{linesCross}
-use Rattle.drawing.specs.Drawing.{Route, spotOf, routeAt, pointsAt, shareEnd, crossPair}
+use Rattle.drawing.specs.Drawing.{Route, spotOf, routeAt, pointsAt, Meets, shareEnd, crossPair}
+use Rattle.drawing.specs.Lengths.{lineLength}
 use Rattle.drawing.specs.Sheet.{routeWords, sheetWords}
-use Rattle.drawing.proofs.Renumbered.{parts-renumbered, spot-renumbered}
+use Rattle.drawing.proofs.Renumbered.{Names, parts-renumbered, spot-renumbered}
 use Rattle.layout.specs.declared.Course as code-course
 use Rattle.layout.specs.declared.Layout.{Layout}
 use Rattle.layout.specs.Columns.{columns}
-use Rattle.layout.specs.Points.{Course, cornersOf, row, partSpot, course, rankSpot, courseOf}
+use Rattle.layout.specs.Points.{Course, pointsOf, cornersOf, row, partSpot, course, rankSpot, courseOf}
 use Rattle.layout.specs.Layout.{drawnIn, layout}
 use Rattle.layout.specs.Over.{over}
 use Rattle.layout.specs.Courses.{CourseFits}
@@ -29,9 +31,9 @@ use Rattle.layout.proofs.Lengths as of-graph
 use Rattle.layout.proofs.ExtraRows.{bottomRows-le}
 use Rattle.layout.proofs.Placed.{facts}
 use Rattle.layout.proofs.Cross.{linesCross-over}
-use Rattle.layout.proofs.Drawn.{parts-count, routes-count, spot-of, route-at, points-at, same-row, parts-le, words-count, column-fits, course-fits, fits}
+use Rattle.layout.proofs.Drawn.{parts-count, routes-count, spot-of, route-at, points-at, meets, same-row, parts-le, words-count, column-fits, course-fits, fits}
 use Rattle.writer.specs.Values.{layoutIn, numberedIn, routeIn}
-use Rattle.writer.proofs.Sections.{route-words}
+use Rattle.writer.proofs.Sections.{route-words, lengthBefore}
 
 -- the course of the cable at line i
 abbrev pub courseAt : Layout → ℕ → code-course.Course
@@ -66,6 +68,9 @@ module _ (l : Layout) (L : IsLayout l) where
   pub bottom-small : l .«bottom_rows» ≤ 1
   bottom-small = omega (arith, L .bottom, bottomRows-le G ranked)
 
+  pub layout-meets : Meets (layoutIn l)
+  layout-meets = meets G ranked
+
   -- Rows of a course
 
   from-row : (i : ℕ) → i < l .graph .cables → courseAt l i .from .y ≡ row G (lower G i)
@@ -85,7 +90,7 @@ module _ (l : Layout) (L : IsLayout l) where
 
     -- Sizes
 
-    pub word-count : length (sheetWords (layoutIn l)) + l .graph .parts ≡ 3 * l .graph .cables + 3 + l .«bottom_rows» + l .«top_rows»
+    pub word-count : length (sheetWords (layoutIn l)) + l .graph .parts ≡ 4 * l .graph .cables + 4 + l .«bottom_rows» + l .«top_rows»
     word-count = omega (arith, words-count G ranked (L .fits .least), lines, L .bottom, L .top)
 
     pub parts-few : l .graph .parts ≤ l .graph .cables + 1
@@ -118,6 +123,15 @@ module _ (l : Layout) (L : IsLayout l) where
     route-is line i h =
         route-words line (routeIn (courseAt l i)) (routeAt (layoutIn l) i)
         (ap cornersOf (L .courses i h) ∙ sym (ap (λ (r : Route). r .corners) (route-at G i (inside i h))))
+
+    -- Lengths
+
+    pub length-is :
+        (i : ℕ) → i < l .graph .cables → lineLength (pointsOf (courseIn (courseAt l i))) ≡ lineLength (pointsAt (layoutIn l) i)
+    length-is i h = ap (λ (c : Course). lineLength (pointsOf c)) (L .courses i h) ∙ ap lineLength (points-at G ranked i (inside i h))
+
+    pub lengths-small : (k : ℕ) → k ≤ l .graph .cables → lengthBefore (layoutIn l) k ≤ k * 4095
+    lengths-small k h = sum-le _ k 4095 (λ i g. let f : i < l .graph .cables = omega arith in omega (arith, length-is i f, course-small i f .length))
 
     -- Crossings
 
@@ -169,6 +183,16 @@ module _ (l : Layout) (L : IsLayout l) where
     number-count = parts-renumbered (namesIn (l .graph .parts) r) (layoutIn l) ∙ part-count
 
     module _ (I : Inverse (l .graph .parts) r) where
+      -- no two parts have one name
+      pub names : Names (length (layoutIn l .parts)) (namesIn (l .graph .parts) r)
+      unfolding rankIn
+      names = subst (λ (n : ℕ). Names n (namesIn (l .graph .parts) r)) (sym part-count) (record {
+        inside = λ p h. omega (arith, I .rank p h, I .below p h);
+        back = I .part;
+        named = I .named;
+        place = I .place;
+      })
+
       pub rank-below : (p : ℕ) → p < l .graph .parts → rankAt (r .rank) p < l .graph .parts
       rank-below p h = omega (arith, rank-number (r .rank) p, I .below p h)
 

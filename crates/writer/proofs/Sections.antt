@@ -1,19 +1,24 @@
--- A drawing's words section by section: those of the parts from a part on and of the cables from a line on, one at a time, and all sections stored
--- under other numbers of the parts, which change neither the head nor the cables. Assumes nothing.
-use Prim.Native.Nat.{ℕ, _+_, _<_, _≤_}
+-- A drawing's words section by section: those of the parts from a part on, of the cables and of the lengths from a line on, one at a time, and all
+-- sections stored under other numbers of the parts, which change the section of the parts alone. Assumes nothing.
+use Prim.Native.Nat.{ℕ, suc, _+_, _<_, _≤_}
 use native.Mathlib.Omega.{arith}
 use native.Mathlib.Numerals.{add-one}
 use mathlib.Core.Path.{_≡_, refl, sym, ap, ap₂, _∙_}
 use mathlib.Core.List.{List, [], _∷_, _++_, map}
-use lib.ListN.{length, getD, drop, length-append, drop-of-length-le}
+use lib.ListN.{length, getD, drop, drop-of-length-le}
 use lib.Seq.{drop-cons}
+use Rattle.lists.specs.Select.{tabulate, sum}
 use Rattle.lists.specs.Stores.{Stored}
+use Rattle.lists.proofs.Sums.{sum-tabulate-zero, sum-tabulate}
 use Rattle.lists.proofs.Stores.{stored-append, stored-as}
-use Rattle.words.specs.Words.{sheetHeadWord}
+use Rattle.words.specs.Words.{sheetHeadWord, cableLengthWord, totalLengthWord}
 use Rattle.drawing.specs.Spots.{origin}
-use Rattle.drawing.specs.Drawing.{Route, noRoute, Drawing, spotOf, routeAt, renumbered}
-use Rattle.drawing.specs.Sheet.{partSpotWord, routeWords, routesWords, headSection, partsSection, cablesSection, sheetWords}
-use Rattle.drawing.proofs.WordCounts.{head-length, parts-length}
+use Rattle.drawing.specs.Drawing.{Route, noRoute, Drawing, spotOf, routeAt, pointsAt, Meets, renumbered}
+use Rattle.drawing.specs.Lengths.{lineLength, cableLengths}
+use Rattle.drawing.specs.Sheet.{partSpotWord, routeWords, routesWords, lengthWords, headSection, partsSection, cablesSection, lengthsSection, sheetWords}
+use Rattle.drawing.proofs.Lengths.{lengths-count, length-at}
+use Rattle.drawing.proofs.LengthWords.{lengthWords-length, record-at, total-at}
+use Rattle.drawing.proofs.Renumbered.{Names, lengths-renumbered}
 
 -- Cables by their corners
 
@@ -64,23 +69,52 @@ module _ (d : Drawing) where
   unfolding routesWords
   cables-end line h = ap (routesWords line) (drop-of-length-le (d .routes) h)
 
-  -- The sections one behind the other
+  -- the lengths from a line on, and their total
+  abbrev pub lengthsFrom : ℕ → List ℕ
+  lengthsFrom line = drop line (lengthsSection d)
 
-  pub section-lengths : length (sheetWords d) ≡ 1 + length (d .parts) + length (cablesSection d)
+  pub lengths-next :
+      (line : ℕ) → line < length (d .routes) → lengthsFrom line ≡ cableLengthWord line (lineLength (pointsAt d line)) ∷ lengthsFrom (line + 1)
+  unfolding lengthsSection
+  lengths-next line h =
+      let words : List ℕ = lengthWords (cableLengths d) in
+      let e = record-at (cableLengths d) line (omega (arith, lengths-count d)) ∙ ap (cableLengthWord line) (length-at d line h) in
+      drop-cons words line 0 (omega (arith, lengthWords-length (cableLengths d), lengths-count d))
+      ∙ ap₂ (λ (z k : ℕ). z ∷ drop k words) e (sym (add-one line))
+
+  -- the length of all lines before a line
+  abbrev pub lengthBefore : ℕ → ℕ
+  lengthBefore line = sum (tabulate line (λ i. lineLength (pointsAt d i)))
+
+  pub before-first : 0 ≡ lengthBefore 0
+  before-first = sym (sum-tabulate-zero (λ i. lineLength (pointsAt d i)))
+
+  pub before-next : (line : ℕ) → lengthBefore (line + 1) ≡ lengthBefore line + lineLength (pointsAt d line)
+  before-next line = ap lengthBefore (add-one line) ∙ sum-tabulate (λ i. lineLength (pointsAt d i)) line
+
+  pub lengths-last : (line : ℕ) → line ≡ length (d .routes) → lengthsFrom line ≡ totalLengthWord (lengthBefore line) ∷ []
+  unfolding lengthsSection cableLengths
+  lengths-last line e =
+      let words : List ℕ = lengthWords (cableLengths d) in
+      let k : line ≡ length (cableLengths d) = e ∙ sym (lengths-count d) in
+      let n : length words ≡ suc line = omega (arith, lengthWords-length (cableLengths d)) in
+      drop-cons words line 0 (omega arith)
+      ∙ ap₂ (λ (z : ℕ) (l : List ℕ). z ∷ l)
+      (ap (λ (j : ℕ). getD words j 0) k ∙ total-at (cableLengths d) ∙ ap (λ (j : ℕ). totalLengthWord (lengthBefore j)) (sym e))
+      (drop-of-length-le words {i = suc line} (omega arith))
+
+-- The sections one behind the other
+
+module _ (names : List ℕ) (d : Drawing) (N : Names (length (d .parts)) names) (M : Meets d) where
+  section-renumbered : lengthsSection (renumbered names d) ≡ lengthsSection d
+  unfolding lengthsSection
+  section-renumbered = ap lengthWords (lengths-renumbered names d N M)
+
+  pub sections-stored :
+      {l₀ l₁ l₂ l₃ l₄ head : List ℕ} {a₁ a₂ a₃ a₄ : ℕ} → head ≡ headSection d
+      → Stored l₀ 0 head l₁ a₁ → Stored l₁ a₁ (partsSection (renumbered names d)) l₂ a₂ → Stored l₂ a₂ (cablesSection d) l₃ a₃
+      → Stored l₃ a₃ (lengthsSection d) l₄ a₄ → Stored l₀ 0 (sheetWords (renumbered names d)) l₄ a₄
   unfolding sheetWords
-  section-lengths =
-      omega (
-        arith,
-        length-append (headSection d) (partsSection d ++ cablesSection d),
-        length-append (partsSection d) (cablesSection d),
-        head-length d,
-        parts-length d,
-      )
-
-pub sections-stored :
-    (names : List ℕ) (d : Drawing) {l₀ l₁ l₂ l₃ head : List ℕ} {a₁ a₂ a₃ : ℕ} → head ≡ headSection d
-    → Stored l₀ 0 head l₁ a₁ → Stored l₁ a₁ (partsSection (renumbered names d)) l₂ a₂ → Stored l₂ a₂ (cablesSection d) l₃ a₃
-    → Stored l₀ 0 (sheetWords (renumbered names d)) l₃ a₃
-unfolding sheetWords
-sections-stored names d e S T U =
-    stored-append (stored-as (e ∙ sym (head-renumbered names d)) S) (stored-append T (stored-as (sym (cables-renumbered names d)) U))
+  sections-stored e S T U W =
+      stored-append (stored-as (e ∙ sym (head-renumbered names d)) S)
+      (stored-append T (stored-append (stored-as (sym (cables-renumbered names d)) U) (stored-as (sym section-renumbered) W)))

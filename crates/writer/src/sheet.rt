@@ -1,4 +1,5 @@
-// A sheet's words, one behind the other: 'its head, the parts by number, then the cables by line, each followed by its corners'.
+// A sheet's words, one behind the other: 'its head, the parts by number, then the cables by line, each followed by its corners'; then the lengths (2026-01).
+use crate::lengths::line_length;
 use layout::Course;
 use layout::Layout;
 use order::Ranking;
@@ -14,20 +15,20 @@ ghost use Rattle.lists.specs.Stores.{Stored};
 ghost use Rattle.words.specs.Words.{cornerWord};
 ghost use Rattle.order.specs.Ranking.{Inverse};
 ghost use Rattle.drawing.specs.Drawing.{spotOf};
-ghost use Rattle.drawing.specs.Sheet.{partSpotWord, cornerSpotWord, routeWords, headSection, partsSection, cablesSection, sheetWords};
+ghost use Rattle.drawing.specs.Sheet.{partSpotWord, cornerSpotWord, routeWords, headSection, partsSection, cablesSection, lengthsSection, sheetWords};
 ghost use Rattle.layout.specs.Points.{cornersOf};
 ghost use Rattle.layout.specs.Arrays.{courseIn, IsLayout};
 ghost use Rattle.layout.specs.Courses.{CourseFits};
 ghost use Rattle.writer.specs.Values.{layoutIn, numberedIn, routeIn};
 
-// '3m - n + 3 + d + e words'.
+// '3m - n + 3 + d + e words', and m + 1 lengths (2026-01).
 pub fn count_words(layout: Layout) -> usize
     requires { ⌜ IsLayout layout ⌝ }
     ensures { λ r. ⌜ r ≡ length (sheetWords (layoutIn layout)) ⌝ }
 {
     let n = layout.graph.parts;
     let m = layout.graph.cables;
-    3 * m + 3 + layout.bottom_rows as usize + layout.top_rows as usize - n
+    4 * m + 4 + layout.bottom_rows as usize + layout.top_rows as usize - n
 }
 
 // A word, and the place behind it.
@@ -142,6 +143,25 @@ fn put_cables(sheet: &mut [u32], at: usize, layout: Layout) -> usize
     next
 }
 
+// The length of each cable by line, then their total.
+fn put_lengths(sheet: &mut [u32], at: usize, layout: Layout) -> usize
+    requires { ⌜ IsLayout layout ⌝ }
+    requires { ⌜ at + length (lengthsSection (layoutIn layout)) ≤ length (now sheet) ⌝ }
+    ensures { λ r. ⌜ Stored (now (sheet .entry)) at (lengthsSection (layoutIn layout)) (now (sheet .exit)) r ⌝ }
+{
+    let m = layout.graph.cables;
+    let mut next = at;
+    let mut total = 0u32;
+    let mut line = 0;
+    while line < m {
+        let steps = line_length(layout.courses[line]);
+        next = put(sheet, next, Word::cable_length(line as u16, steps));
+        total += steps as u32;
+        line += 1;
+    }
+    put(sheet, next, Word::total_length(total))
+}
+
 // All words of a sheet, from the front.
 pub fn put_sheet(sheet: &mut [u32], ranking: Ranking, layout: Layout) -> usize
     requires { ⌜ IsLayout layout ⌝ }
@@ -151,5 +171,6 @@ pub fn put_sheet(sheet: &mut [u32], ranking: Ranking, layout: Layout) -> usize
 {
     let parts = put(sheet, 0, head_word(layout));
     let cables = put_parts(sheet, parts, ranking, layout);
-    put_cables(sheet, cables, layout)
+    let lengths = put_cables(sheet, cables, layout);
+    put_lengths(sheet, lengths, layout)
 }

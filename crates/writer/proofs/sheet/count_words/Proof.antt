@@ -1,7 +1,7 @@
 -- The law of the count, over the layout's own numbers. Assumes nothing.
 use native.Mathlib.Omega.{arith}
 use borrow.Author.Needs.{needs}
-use Rattle.writer.proofs.Layouts.{AllPlaces, word-count}
+use Rattle.writer.proofs.Layouts.{AllPlaces, word-count, parts-few}
 use Rattle.writer.proofs.sheet.count_words.Statement.{statement}
 use Rattle.writer.proofs.sheet.count_words.Tie as tie
 
@@ -27,7 +27,7 @@ add-result-3 : tie.Need-add-result-3
 add-result-3 c = search needs
 
 sub-result : tie.Need-sub-result
-sub-result c = let s = c .before .before in omega (arith, word-count (s .args .layout) (s .pre) (room s))
+sub-result c = let s = c .before .before in omega (arith, parts-few (s .args .layout) (s .pre) (room s))
 
 returns : tie.Need-returns
 returns c = let s = c .before .before in omega (arith, word-count (s .args .layout) (s .pre) (room s))

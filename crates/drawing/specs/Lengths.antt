@@ -1,0 +1,29 @@
+-- Request 2026-01: how long the cables' lines are. Assumes nothing.
+use Prim.Native.Nat.{ℕ, _+_, _*_, _-_, min, max}
+use mathlib.Core.List.{List, [], _∷_}
+use lib.ListN.{length}
+use Rattle.lists.specs.Select.{tabulate}
+use Rattle.drawing.specs.Spots.{Spot}
+use Rattle.drawing.specs.Drawing.{Drawing, pointsAt}
+
+-- the grid steps between two columns, or between two rows
+unfoldable pub steps : ℕ → ℕ → ℕ
+steps a b = max a b - min a b
+
+-- the distance of two points: steps in x and steps in y (their rectilinear distance)
+abbrev pub distance : Spot → Spot → ℕ
+distance p q = steps (p .x) (q .x) + steps (p .y) (q .y)
+
+-- 'the grid steps along that cable's line', which are 'the summed distance between neighbouring points'
+unfoldable pub lineLength : List Spot → ℕ
+lineLength [] = 0
+lineLength (p ∷ []) = 0
+lineLength (p ∷ q ∷ r) = distance p q + lineLength (q ∷ r)
+
+-- 'run lengths': of each cable's line, by line
+unfoldable pub cableLengths : Drawing → List ℕ
+cableLengths d = tabulate (length (d .routes)) (λ i. lineLength (pointsAt d i))
+
+-- A line's length is at most this with n parts: twice the width, once the height, and a step at either end.
+abbrev pub mostLength : ℕ → ℕ
+mostLength n = 3 * n + 5
