@@ -1,28 +1,20 @@
--- The words of lengths that fit their fields: how many they are, that each has 32 bits and none is a corner, and what is read off them. Assumes nothing.
+-- The words of lengths that fit their fields: how many they are, that each has 32 bits, and what is read off them. Assumes nothing.
 use Prim.Native.Nat.{ℕ, _+_, _<_, _≤_, _^_}
 use native.Mathlib.Omega.{arith}
 use mathlib.Core.Path.{_≡_, refl, sym, ap, _∙_}
-use mathlib.Core.Bool.{false}
 use mathlib.Core.Logic.{_⊎_, inl, inr}
-use mathlib.Core.List.{List, [], _∷_, _++_, map, List·Memᴰ, List·Memᴰ·append-cases, List·Memᴰ·eq-of-singleton}
+use mathlib.Core.List.{List, [], _∷_, map, List·Memᴰ, List·Memᴰ·append-cases, List·Memᴰ·eq-of-singleton}
 use lib.ListN.{length, getD, take, length-append, List·getD-append}
 use lib.Seq.{take-at, getD-at}
-use borrow.Author.Tests.{ne-eqb}
-use Rattle.lists.specs.Select.{tabulate, count, sum, oneIf}
+use Rattle.lists.specs.Select.{tabulate, sum}
 use Rattle.lists.proofs.Select.{length-tabulate, getD-tabulate}
 use Rattle.lists.proofs.Places.{mem-place}
-use Rattle.lists.proofs.Maps.{map-tabulate, count-tabulate}
+use Rattle.lists.proofs.Maps.{map-tabulate}
 use Rattle.lists.proofs.Agree.{tabulate-same}
 use Rattle.lists.proofs.Fill.{tabulate-of}
-use Rattle.lists.proofs.Sums.{count-append, count-none}
-use Rattle.words.specs.Words.{kindOf, secondOf, lineOf, totalOf, corner, cableLength, cableLengthWord, totalLength, totalLengthWord}
+use Rattle.words.specs.Words.{kindOf, secondOf, lineOf, totalOf, cableLength, cableLengthWord, totalLength, totalLengthWord}
 use Rattle.words.proofs.Words.{LineFields, lineFields-apart, totalLength-apart}
 use Rattle.drawing.specs.Sheet.{lengthWords}
-use Rattle.drawing.specs.Counts.{isCorner}
-
--- a word of another kind is no corner
-pub no-corner : (kind w : ℕ) → kindOf w ≡ kind → (kind ≡ corner → ⊥) → isCorner w ≡ false
-no-corner kind w e n = ne-eqb (kindOf w) corner (λ q. n (sym e ∙ q))
 
 pub record LengthsFit (lengths : List ℕ) : Type 0 where
   pub each : (i : ℕ) → i < length lengths → getD lengths i 0 < 4096
@@ -30,7 +22,7 @@ pub record LengthsFit (lengths : List ℕ) : Type 0 where
 
 module _ (lengths : List ℕ) where
   -- the records, in front of the total
-  abbrev records : List ℕ
+  abbrev pub records : List ℕ
   records = tabulate (length lengths) (λ i. cableLengthWord i (getD lengths i 0))
 
   records-count : length records ≡ length lengths
@@ -51,7 +43,7 @@ module _ (lengths : List ℕ) where
   total-at = getD-at records _ [] 0 (length lengths) records-count
 
   module _ (F : LengthsFit lengths) (few : length lengths ≤ 65536) where
-    record-fields : (i : ℕ) → i < length lengths → LineFields cableLength i (getD lengths i 0) (cableLengthWord i (getD lengths i 0))
+    pub record-fields : (i : ℕ) → i < length lengths → LineFields cableLength i (getD lengths i 0) (cableLengthWord i (getD lengths i 0))
     record-fields i h = lineFields-apart cableLength i (getD lengths i 0) (omega arith) (omega arith) (F .each i h)
 
     pub lengthWords-fit : (w : ℕ) → List·Memᴰ w (lengthWords lengths) → w < 2 ^ 32
@@ -64,18 +56,6 @@ module _ (lengths : List ℕ) where
             let h : t .0 < length lengths = omega (arith, records-count, t .1) in
             omega (arith, t .2, getD-tabulate (length lengths) (λ i. cableLengthWord i (getD lengths i 0)) (t .0) 0 h, record-fields (t .0) h .fits)
         go (inr k) = omega (arith, List·Memᴰ·eq-of-singleton k, totalLength-apart (sum lengths) (F .total) .fits)
-
-    pub lengthWords-corners : count isCorner (lengthWords lengths) ≡ 0
-    unfolding lengthWords count
-    lengthWords-corners =
-        omega (
-          arith,
-          count-append isCorner records (totalLengthWord (sum lengths) ∷ []),
-          count-tabulate isCorner (length lengths) (λ i. cableLengthWord i (getD lengths i 0)),
-          count-none (λ i. isCorner (cableLengthWord i (getD lengths i 0))) (length lengths)
-              (λ i h. no-corner cableLength _ (record-fields i h .kind-is) (λ e. omega arith)),
-          ap oneIf (no-corner totalLength _ (totalLength-apart (sum lengths) (F .total) .kind-is) (λ e. omega arith)),
-        )
 
     -- What is read off them
 

@@ -1,23 +1,24 @@
 -- How many words a drawing has, section by section, and how many of them are corners. Assumes nothing.
 use Prim.Native.Nat.{ℕ, suc, _+_, _*_, _<_, _≤_}
 use native.Mathlib.Omega.{arith}
-use mathlib.Core.Path.{_≡_, refl, ap}
+use mathlib.Core.Path.{_≡_, refl, sym, ap, _∙_}
 use mathlib.Core.Bool.{true, false}
 use mathlib.Core.List.{List, [], _∷_, _++_, map}
 use lib.ListN.{length, getD, length-append, length-map}
-use borrow.Author.Tests.{eq-eqb}
+use borrow.Author.Tests.{eq-eqb, ne-eqb}
 use Rattle.lists.specs.Select.{count, oneIf, sum}
-use Rattle.lists.proofs.Sums.{count-append}
-use Rattle.words.specs.Words.{kindOf, sheetHead, sheetHeadWord, part, sheetCable, sheetCableWord, corner}
-use Rattle.words.proofs.Words.{fields-apart, lineFields-apart}
+use Rattle.lists.proofs.Maps.{count-tabulate}
+use Rattle.lists.proofs.Sums.{count-append, count-none as count-range-none}
+use Rattle.words.specs.Words.{kindOf, sheetHead, sheetHeadWord, part, sheetCable, sheetCableWord, corner, cableLength, cableLengthWord, totalLength, totalLengthWord}
+use Rattle.words.proofs.Words.{fields-apart, lineFields-apart, totalLength-apart}
 use Rattle.drawing.specs.Spots.{Spot}
 use Rattle.drawing.specs.Drawing.{Route, noRoute, Drawing}
-use Rattle.drawing.specs.Sheet.{partSpotWord, cornerSpotWord, routeWords, routesWords, headSection, partsSection, cablesSection, lengthsSection, sheetWords}
+use Rattle.drawing.specs.Sheet.{partSpotWord, cornerSpotWord, routeWords, routesWords, lengthWords, headSection, partsSection, cablesSection, lengthsSection, sheetWords}
 use Rattle.drawing.specs.Lengths.{cableLengths}
 use Rattle.drawing.specs.Reading.{Ends, noEnds}
 use Rattle.drawing.specs.Counts.{cornerCount, isCorner}
 use Rattle.drawing.proofs.Lengths.{lengths-count}
-use Rattle.drawing.proofs.LengthWords.{no-corner, lengthWords-length, lengthWords-corners}
+use Rattle.drawing.proofs.LengthWords.{LengthsFit, records, record-fields, lengthWords-length}
 use Rattle.drawing.proofs.ReadBack.{SpotFits, AllFit, RouteFits, DrawingFits}
 
 -- The length
@@ -64,6 +65,10 @@ pub words-length : (d : Drawing) → length (sheetWords d) ≡ 2 + length (d .pa
 words-length d = omega (arith, section-lengths d, cables-length d, lengths-length d)
 
 -- The corners
+
+-- a word of another kind is no corner
+no-corner : (kind w : ℕ) → kindOf w ≡ kind → (kind ≡ corner → ⊥) → isCorner w ≡ false
+no-corner kind w e n = ne-eqb (kindOf w) corner (λ q. n (sym e ∙ q))
 
 count-none :
     (word : Spot → ℕ) → ((s : Spot) → SpotFits s → isCorner (word s) ≡ false)
@@ -115,6 +120,18 @@ routes-corners (c ∷ cs) (r ∷ rs) line e h f =
       count-append isCorner (routeWords line r) (routesWords (line + 1) rs),
       route-corners line r (omega arith) (fit .few) (fit .corners-fit),
       routes-corners cs rs (line + 1) (omega arith) (omega arith) (λ i g. f (suc i) (omega arith)),
+    )
+
+lengthWords-corners : (lengths : List ℕ) → LengthsFit lengths → length lengths ≤ 65536 → count isCorner (lengthWords lengths) ≡ 0
+unfolding lengthWords count
+lengthWords-corners lengths F few =
+    omega (
+      arith,
+      count-append isCorner (records lengths) (totalLengthWord (sum lengths) ∷ []),
+      count-tabulate isCorner (length lengths) (λ i. cableLengthWord i (getD lengths i 0)),
+      count-range-none (λ i. isCorner (cableLengthWord i (getD lengths i 0))) (length lengths)
+          (λ i h. no-corner cableLength _ (record-fields lengths F few i h .kind-is) (λ e. omega arith)),
+      ap oneIf (no-corner totalLength _ (totalLength-apart (sum lengths) (F .total) .kind-is) (λ e. omega arith)),
     )
 
 module _ (n : ℕ) (ends : List Ends) (d : Drawing) (F : DrawingFits n ends d) where

@@ -1,5 +1,5 @@
 -- The eleven refusals, the boundaries, and stations A to D of document 01, with the lengths of request 2026-01, as the definitions give them. Assumes nothing.
-use Prim.Native.Nat.{ℕ, _-_}
+use Prim.Native.Nat.{ℕ}
 use mathlib.Core.Path.{_≡_, refl}
 use mathlib.Core.Bool.{false}
 use mathlib.Core.List.{List, [], _∷_}

@@ -14,7 +14,7 @@ use Rattle.drawing.specs.Lengths.{steps, distance, lineLength, mostLength}
 use Rattle.drawing.proofs.Spots.{same-spot-e}
 use Rattle.drawing.proofs.Lengths.{steps-none, steps-back, steps-up, steps-most, length-next, length-one}
 use Rattle.layout.specs.Columns.{bottomLine, topLine, columns}
-use Rattle.layout.specs.Points.{Course, turns, dropRepeats, pointsOf, bottomRows, topRows, row, partSpot, course, rankSpot, courseOf}
+use Rattle.layout.specs.Points.{Course, turns, dropRepeats, pointsOf, row, partSpot, course, rankSpot, courseOf}
 use Rattle.layout.proofs.Turns.{repeats-first}
 use Rattle.layout.proofs.ExtraRows.{bottomRows-le, topRows-le, bottom-place, top-place}
 use Rattle.layout.proofs.Sizes.{cable-column-below, rising, high-below, spots-within, columns-count}
