@@ -44,7 +44,7 @@ size_t dovranis_most_words(void);
  * 0, a sheet:
  *   sheet      its first *words words are the sheet's; the words behind them are as they were
  *   words      the words of the sheet, at most sheet_count and at most DOVRANIS_MOST_WORDS
- *   crossings  the pairs of cables with no part in common whose lines cross
+ *   crossings  all pairs of cables whose lines cross, those that share a part too
  *   place      as it was
  *
  *   Of the sheet's words this holds, whatever the station. They are a head, all parts, all cables, all

@@ -5,9 +5,9 @@
 
 Sheets come from reference.py. Of each picture: a box at every part's spot; every point of every cable in its path,
 which begins and ends at the borders of its parts; every cable's title with its parts and its length; an arc at every
-crossing and nowhere else; every cable's number, nearest to its own line; no text that reaches into a box, a line, an
-arc, another text or over the edge. It also edits a picture and needs each edit to be seen, and compares the pictures
-in docs/. It is no part of the gate."""
+crossing and nowhere else, as many as the call counts; every cable's number, nearest to its own line; no text that
+reaches into a box, a line, an arc, another text or over the edge. It also edits a picture and needs each edit to be
+seen, and compares the pictures in docs/. It is no part of the gate."""
 import os
 import random
 import re
@@ -171,6 +171,7 @@ class Comparison:
             self.compare_line(line, points, without_hops(places, its_arcs))
             arcs += [self.arc_spot(line, arc) for arc in its_arcs]
         self.need(sorted(map(str, arcs)) == sorted(map(str, self.crossed)), 'arcs are not the crossings')
+        self.need(len(arcs) == reference.crossings(self.points), 'arcs are not as many as the call counts')
 
     def title(self, line):
         steps = self.lengths[line]

@@ -2,12 +2,12 @@
 use Rattle.drawing.specs.Spots.{sameSpot}
 use Rattle.drawing.specs.Lines.{point}
 use Rattle.drawing.specs.Crossing.{between, meetingSpot, runsCross, crossesOver, linesCross}
-use Rattle.drawing.specs.Drawing.{spotOf, routePoints, routeAt, pointsAt, shareEnd, crossPair, crossingsOf, crossings, renumbered}
+use Rattle.drawing.specs.Drawing.{spotOf, routePoints, routeAt, pointsAt, crossPair, crossingsOf, crossings, renumbered}
 use Rattle.drawing.specs.Lengths.{steps, lineLength, cableLengths}
 use Rattle.drawing.specs.Sheet.{partSpotWord, cornerSpotWord, routeWords, routesWords, lengthWords, headSection, partsSection, cablesSection, lengthsSection, sheetWords}
 use Rattle.drawing.specs.Reading.{wordSpot, routesIn, drawingIn, behindCables, lengthsIn}
 use Rattle.lists.proofs.Computing.{lists-computing}
 
 unfoldable pub drawing-computing : Unit {0}
-unfolding lists-computing sameSpot point between meetingSpot runsCross crossesOver linesCross spotOf routePoints routeAt pointsAt shareEnd crossPair crossingsOf crossings renumbered steps lineLength cableLengths partSpotWord cornerSpotWord routeWords routesWords lengthWords headSection partsSection cablesSection lengthsSection sheetWords wordSpot routesIn drawingIn behindCables lengthsIn
+unfolding lists-computing sameSpot point between meetingSpot runsCross crossesOver linesCross spotOf routePoints routeAt pointsAt crossPair crossingsOf crossings renumbered steps lineLength cableLengths partSpotWord cornerSpotWord routeWords routesWords lengthWords headSection partsSection cablesSection lengthsSection sheetWords wordSpot routesIn drawingIn behindCables lengthsIn
 drawing-computing = tt

@@ -1,7 +1,8 @@
--- Laws of drawings: spots and their test (Spots), the test that lines cross (Crossing), the lengths of lines (Lengths) and their words
--- (LengthWords), all words read back (ReadBack, Measured) and counted (WordCounts), other numbers of the parts (Renaming, Renumbered, Sized), and small examples (Worked). Assumes nothing.
+-- Laws of drawings: spots and their test (Spots), the test that lines cross (Crossing), an arc for each pair that does (Arcs), the lengths of lines (Lengths)
+-- and their words (LengthWords), all words read back (ReadBack, Measured) and counted (WordCounts), other numbers of the parts (Renaming, Renumbered, Sized), and small examples (Worked). Assumes nothing.
 pub mod Spots
 pub mod Crossing
+pub mod Arcs
 pub mod Lengths
 pub mod LengthWords
 pub mod ReadBack

@@ -2,21 +2,21 @@
 use Prim.Native.Nat.{ℕ, _+_, _<_}
 use native.Mathlib.Omega.{arith}
 use mathlib.Core.Path.{_≡_, refl, sym, ap, ap₂, subst, subst₂, _∙_}
-use mathlib.Core.Bool.{Bool, not, _&&_}
+use mathlib.Core.Bool.{Bool}
 use mathlib.Core.List.{List, [], _∷_, _++_, map, map-map, List·Memᴰ, List·Memᴰ·head, List·Memᴰ·tail}
 use lib.ListN.{length, getD, length-map}
-use lib.Dec.{eqb, ltb}
+use lib.Dec.{ltb}
 use Rattle.lists.specs.Select.{tabulate, count, sum, indexOf}
 use Rattle.lists.proofs.Select.{getD-map, length-tabulate, getD-tabulate}
 use Rattle.lists.proofs.Agree.{tabulate-same}
 use Rattle.lists.proofs.Places.{mem-place}
 use Rattle.lists.proofs.Maps.{count-map}
-use Rattle.lists.proofs.Same.{same-eqb, count-same}
+use Rattle.lists.proofs.Same.{count-same}
 use Rattle.drawing.specs.Spots.{Spot, origin}
 use Rattle.drawing.specs.Lines.{Meetings}
 use Rattle.drawing.specs.Crossing.{linesCross}
 use Rattle.drawing.specs.Drawing.{Route, noRoute, Drawing, spotOf, routePoints, routeAt, pointsAt, Meets}
-use Rattle.drawing.specs.Drawing.{shareEnd, crossPair, crossingsOf, crossings, renumbered}
+use Rattle.drawing.specs.Drawing.{crossPair, crossingsOf, crossings, renumbered}
 use Rattle.drawing.specs.Lengths.{lineLength, cableLengths}
 use Rattle.drawing.specs.Sheet.{sheetWords}
 use Rattle.drawing.specs.Counts.{cornerCount}
@@ -158,27 +158,11 @@ module _ (names : List ℕ) where
 
       -- Crossings
 
-      same-part : (j k : ℕ) → j < length (d .parts) → k < length (d .parts) → eqb (getD names j 0) (getD names k 0) ≡ eqb j k
-      same-part j k g h =
-          same-eqb _ _ j k (λ e. sym (N .place j g) ∙ ap (λ (p : ℕ). indexOf p names) e ∙ N .place k h) (ap (λ (p : ℕ). getD names p 0))
-
-      same-ends : (r q : Route) → Inside (length (d .parts)) r → Inside (length (d .parts)) q → shareEnd (called r) (called q) ≡ shareEnd r q
-      unfolding shareEnd
-      same-ends r q I J =
-          rw (
-            same-part (r .first) (q .first) (I .first-inside) (J .first-inside),
-            same-part (r .first) (q .last) (I .first-inside) (J .last-inside),
-            same-part (r .last) (q .first) (I .last-inside) (J .first-inside),
-            same-part (r .last) (q .last) (I .last-inside) (J .last-inside),
-          )
-          refl
-
       same-pair :
           (r q : Route) → Inside (length (d .parts)) r → Inside (length (d .parts)) q
           → crossPair (renumbered names d) (called r) (called q) ≡ crossPair d r q
       unfolding crossPair
-      same-pair r q I J =
-          ap₂ (λ (a b : Bool). not a && b) (same-ends r q I J) (ap₂ linesCross (called-points r I) (called-points q J))
+      same-pair r q I J = ap₂ linesCross (called-points r I) (called-points q J)
 
       same-crossings :
           (rs : List Route) → ((r : Route) → List·Memᴰ r rs → Inside (length (d .parts)) r)

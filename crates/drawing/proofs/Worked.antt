@@ -48,11 +48,13 @@ record Worked : Type 0 where
   triangle-words : sheetWords triangle ≡ thirteen
   triangle-read : drawingIn 3 (ends 0 1 ∷ ends 1 2 ∷ ends 0 2 ∷ []) thirteen ≡ triangle
   triangle-lengths : lengthsIn 3 3 thirteen ≡ 0x80000001 ∷ 0x80001001 ∷ 0x80002004 ∷ 0xa0000006 ∷ []
-  -- 'the pairs of cables with no part in common whose lines cross'
+  -- 2026-02: 'all pairs of cables whose lines cross, those that share a part too'
   crossed : crossings (over (route 2 3 [])) ≡ 1
-  -- this one ends at part 0
-  joined : crossings (over (route 2 0 (spotAt 1 2 ∷ spotAt 0 2 ∷ []))) ≡ 0
+  -- this one ends at part 0, from above
+  joined : crossings (over (route 2 0 (spotAt 1 2 ∷ spotAt 0 2 ∷ []))) ≡ 1
+  -- and this one from below: the part's spot, which both lines have, is no crossing
+  meeting : crossings (over (route 2 0 (spotAt 0 0 ∷ []))) ≡ 0
 
 worked : Worked
 unfolding drawing-computing
-worked = record { triangle-words = refl; triangle-read = refl; triangle-lengths = refl; crossed = refl; joined = refl }
+worked = record { triangle-words = refl; triangle-read = refl; triangle-lengths = refl; crossed = refl; joined = refl; meeting = refl }

@@ -1,9 +1,8 @@
 -- A drawing: what a sheet says, before it is words. Assumes nothing.
 use Prim.Native.Nat.{ℕ, _+_}
-use mathlib.Core.Bool.{Bool, not, _&&_, _||_}
+use mathlib.Core.Bool.{Bool}
 use mathlib.Core.List.{List, [], _∷_, _++_, map}
 use lib.ListN.{length, getD}
-use lib.Dec.{eqb}
 use Rattle.lists.specs.Select.{tabulate, count, indexOf}
 use Rattle.drawing.specs.Spots.{Spot, origin}
 use Rattle.drawing.specs.Lines.{Meetings}
@@ -46,14 +45,11 @@ Meets d = Meetings (length (d .parts)) (length (d .routes)) (spotOf d) (λ i. ro
 
 -- Crossings
 
--- two cables have a part in common
-unfoldable pub shareEnd : Route → Route → Bool
-shareEnd r q = eqb (r .first) (q .first) || eqb (r .first) (q .last) || eqb (r .last) (q .first) || eqb (r .last) (q .last)
-
--- 'the pairs of cables with no part in common whose lines cross'
+-- 2026-02: 'all pairs of cables whose lines cross, those that share a part too'
 unfoldable pub crossPair : Drawing → Route → Route → Bool
-crossPair d r q = not (shareEnd r q) && linesCross (routePoints d r) (routePoints d q)
+crossPair d r q = linesCross (routePoints d r) (routePoints d q)
 
+-- each cable with those behind it, so that every pair is counted once
 unfoldable pub crossingsOf : Drawing → List Route → ℕ
 crossingsOf d [] = 0
 crossingsOf d (r ∷ rs) = count (crossPair d r) rs + crossingsOf d rs

@@ -1,7 +1,7 @@
 -- What makes an answer right: a refusal by checks 1 to 10, a sheet too long for the output, a sheet that is written. Assumes nothing.
 use Prim.Native.Nat.{ℕ, _<_, _≤_}
 use native.Mathlib.Omega.{arith}
-use mathlib.Core.Path.{_≡_, refl, sym, ap, ap₂, _∙_, subst}
+use mathlib.Core.Path.{_≡_, refl, sym, ap, ap₂, _∙_, subst, subst₂}
 use mathlib.Core.List.{List, [], _∷_, List·Memᴰ·not-nil}
 use lib.ListN.{length, take, drop}
 use lib.Seq.{take-at}
@@ -20,9 +20,9 @@ use Rattle.drawing.specs.Sheet.{sheetWords}
 use Rattle.hookup.specs.declared.Answer.the-variants.{Sheet, Refused}
 use Rattle.hookup.specs.Drawing.{drawing}
 use Rattle.hookup.specs.Outcome.{Outcome, drawn, sentBack, fitted, orDrawn, outcome}
-use Rattle.hookup.specs.Demand.{Demand3, Ordered}
+use Rattle.hookup.specs.Demand.{Demand3, Ordered, Crossed}
 use Rattle.hookup.specs.Answer.{counts, reply, outputOf, Drew}
-use Rattle.hookup.proofs.Demand3.{demand3, ordered}
+use Rattle.hookup.proofs.Demand3.{demand3, ordered, crossed}
 
 -- Checks 1 to 8 with what they find, then 9 and 10
 
@@ -98,5 +98,9 @@ drew-sheet list before after words n k e f h S g =
     record {
       replies = ap₂ counts size g ∙ sym (ap reply o);
       output = rest ∙ sym (ap (λ (z : Outcome). outputOf z before) o);
-      demands = (subst (λ (l : List ℕ). Demand3 list l) (sym front) (demand3 list e), subst (λ (l : List ℕ). Ordered list l) (sym front) (ordered list e));
+      demands = (
+        subst (λ (l : List ℕ). Demand3 list l) (sym front) (demand3 list e),
+        subst (λ (l : List ℕ). Ordered list l) (sym front) (ordered list e),
+        subst₂ (λ (l : List ℕ) (c : ℕ). Crossed list l c) (sym front) (sym g) (crossed list e),
+      );
     }

@@ -1,4 +1,4 @@
--- Demand 3, whole, and the order of demand 2, for the words of the drawing of every list that is not sent back. Assumes nothing.
+-- Demand 3, whole, the order of demand 2, and the crossings (2026-02), for the words of the drawing of every list that is not sent back. Assumes nothing.
 use Prim.Native.Nat.{ℕ, _+_, _<_, _≤_, _^_}
 use native.Mathlib.Omega.{arith}
 use mathlib.Core.Path.{_≡_, refl, sym, ap, _∙_, subst}
@@ -17,7 +17,7 @@ use Rattle.order.proofs.Bipolar.{Orderable}
 use Rattle.order.proofs.StOrder.{order-ordering, order-smallest}
 use Rattle.order.proofs.Ends.{parts-joined}
 use Rattle.order.proofs.Passed.{list-orderable, lines-most}
-use Rattle.drawing.specs.Drawing.{Drawing, routeAt, Meets}
+use Rattle.drawing.specs.Drawing.{Drawing, routeAt, Meets, crossings}
 use Rattle.drawing.specs.Sheet.{sheetWords}
 use Rattle.drawing.specs.Reading.{Ends, noEnds, partsByRow, lengthsIn}
 use Rattle.drawing.specs.Sizes.{Sizes}
@@ -25,7 +25,7 @@ use Rattle.drawing.specs.Measured.{Measured}
 use Rattle.drawing.proofs.ReadBack.{words-fit}
 use Rattle.hookup.specs.Drawing.{drawing}
 use Rattle.hookup.specs.Reading.{endsBy, drawingOf}
-use Rattle.hookup.specs.Demand.{Form, Demand3, rowOf, Ordered}
+use Rattle.hookup.specs.Demand.{Form, Demand3, rowOf, Ordered, Crossed}
 use Rattle.hookup.proofs.Drawn as drawn
 use Rattle.hookup.proofs.Drawn.{endsOf, fits, reads, meets, sizes, measured}
 use Rattle.hookup.proofs.PartRows.{parts-by-row, rank-row, bottom-rows}
@@ -92,6 +92,10 @@ module _ (list : List ℕ) (pass : Clear allChecks list) where
             ap (λ (l : List ℕ). rowOf sheet (getD l k 0)) e
             ∙ rank-row st orderable k (omega (arith, order-ordering st orderable .all)) ∙ ap (λ (d : ℕ). d + k) (bottom-rows st orderable);
       }
+
+  -- 2026-02: the crossings of the drawing are those that its words show
+  pub crossed : Crossed list (sheetWords (drawing (stationOf list))) (crossings (drawing (stationOf list)))
+  crossed = record { pairs = sym (ap crossings read-off) }
 
   -- every word has 32 bits
   pub sheet-fits : (w : ℕ) → List·Memᴰ w (sheetWords (drawing (stationOf list))) → w < 2 ^ 32

@@ -1,7 +1,7 @@
--- The eleven refusals, the boundaries, and stations A to D of document 01, with the lengths of request 2026-01, as the definitions give them. Assumes nothing.
+-- The eleven refusals, the boundaries, and stations A to D of document 01, with the lengths of request 2026-01 and the crossings of 2026-02, as the definitions give them. Assumes nothing.
 use Prim.Native.Nat.{ℕ}
 use mathlib.Core.Path.{_≡_, refl}
-use mathlib.Core.Bool.{false}
+use mathlib.Core.Bool.{true, false}
 use mathlib.Core.List.{List, [], _∷_}
 use lib.ListN.{length}
 use lib.Dec.{eqb}
@@ -12,7 +12,7 @@ use Rattle.order.specs.Reach.{connected}
 use Rattle.order.specs.Order.{order}
 use Rattle.order.proofs.Triangle.{triangle}
 use Rattle.drawing.specs.Spots.{spotAt}
-use Rattle.drawing.specs.Drawing.{Drawing, routeAt, crossings}
+use Rattle.drawing.specs.Drawing.{Drawing, routeAt, crossPair, crossings}
 use Rattle.drawing.specs.Lengths.{cableLengths}
 use Rattle.drawing.specs.Sheet.{sheetWords}
 use Rattle.hookup.specs.Drawing.{drawing}
@@ -86,7 +86,13 @@ pub record Table : Type 0 where
   -- 2026-01
   d-lengths : cableLengths (drawingOfList stationD) ≡ 3 ∷ 5 ∷ 7 ∷ 14 ∷ 2 ∷ 2 ∷ 5 ∷ 4 ∷ 3 ∷ 1 ∷ []
   d-total : sum (cableLengths (drawingOfList stationD)) ≡ 46
-  d-crossings : crossings (drawingOfList stationD) ≡ 3
+  -- 2026-02: the crossings of A, B, C and D
+  a-crossings : crossings (drawingOfList triangle) ≡ 0
+  b-crossings : crossings (drawingOfList square) ≡ 0
+  c-crossings : crossings (drawingOfList stationC) ≡ 0
+  d-crossings : crossings (drawingOfList stationD) ≡ 4
+  -- 'those that share a part too': 2-3 and 2-4
+  d-shared : crossPair (drawingOfList stationD) (routeAt (drawingOfList stationD) 7) (routeAt (drawingOfList stationD) 8) ≡ true
   d-parts : drawingOfList stationD .parts ≡ spotAt 4 1 ∷ spotAt 2 2 ∷ spotAt 1 3 ∷ spotAt 2 4 ∷ spotAt 2 5 ∷ []
   d-line-3 : routeAt (drawingOfList stationD) 3 .corners ≡ spotAt 4 0 ∷ spotAt 6 0 ∷ spotAt 6 6 ∷ spotAt 2 6 ∷ []
   -- B, C and D pass every check: an output of their words takes them, and one of a word less does not
@@ -106,7 +112,7 @@ pub record Table : Type 0 where
       outcome stationD 41
       ≡ drawn
       (0x40006006 ∷ 0x50004001 ∷ 0x50002002 ∷ 0x50001003 ∷ 0x50002004 ∷ 0x50002005 ∷ 0x60000001 ∷ 0x70002001 ∷ 0x60001001 ∷ 0x70004003 ∷ 0x60002002 ∷ 0x70005001 ∷ 0x70005004 ∷ 0x60003004 ∷ 0x70004000 ∷ 0x70006000 ∷ 0x70006006 ∷ 0x70002006 ∷ 0x60004001 ∷ 0x70001002 ∷ 0x60005000 ∷ 0x60006002 ∷ 0x70003002 ∷ 0x70003005 ∷ 0x60007002 ∷ 0x70000003 ∷ 0x70000004 ∷ 0x60008001 ∷ 0x70001005 ∷ 0x60009000 ∷ 0x80000003 ∷ 0x80001005 ∷ 0x80002007 ∷ 0x8000300e ∷ 0x80004002 ∷ 0x80005002 ∷ 0x80006005 ∷ 0x80007004 ∷ 0x80008003 ∷ 0x80009001 ∷ 0xa000002e ∷ [])
-      3
+      4
   d-short : outcome stationD 40 ≡ sentBack 11 41
 
 pub table : Table
@@ -138,7 +144,11 @@ table = record {
   d-words = refl;
   d-lengths = refl;
   d-total = refl;
+  a-crossings = refl;
+  b-crossings = refl;
+  c-crossings = refl;
   d-crossings = refl;
+  d-shared = refl;
   d-parts = refl;
   d-line-3 = refl;
   b-drawn = refl;

@@ -6,7 +6,7 @@ use lib.ListN.{length, take, drop}
 use Rattle.hookup.specs.declared.Answer.{Answer}
 use Rattle.hookup.specs.declared.Answer.the-variants.{Sheet, Refused}
 use Rattle.hookup.specs.Outcome.{Outcome, drawn, sentBack, outcome}
-use Rattle.hookup.specs.Demand.{Demand3, Ordered}
+use Rattle.hookup.specs.Demand.{Demand3, Ordered, Crossed}
 
 -- 'A successful call returns the words written and the crossings'; a refusal 'returns its number and one place'.
 pub data Reply : Type 0 where
@@ -28,9 +28,11 @@ abbrev pub outputOf : Outcome → List ℕ → List ℕ
 outputOf (drawn words crossings) before = words ++ drop (length words) before
 outputOf (sentBack check place) before = before
 
--- what is demanded of the words that a sheet leaves in the output: demand 3, and of demand 2 that the parts stand in the smallest st-ordering
+-- what is demanded of the words that a sheet leaves in the output: demand 3, of demand 2 that the parts stand in the smallest st-ordering, and that
+-- the crossings are those that the words show
 abbrev pub Demanded : Answer → List ℕ → List ℕ → Type 0
-Demanded (Sheet words crossings) list output = Demand3 list (take words output) × Ordered list (take words output)
+Demanded (Sheet words crossings) list output =
+    Demand3 list (take words output) × Ordered list (take words output) × Crossed list (take words output) crossings
 Demanded (Refused check place) list output = Unit
 
 -- a call on a list, with what stood in the output before and after

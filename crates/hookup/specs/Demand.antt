@@ -1,4 +1,4 @@
--- Demands 2 and 3, and request 2026-01, as claims about the words of a list and the words of its sheet. Assumes nothing.
+-- Demands 2 and 3, and requests 2026-01 and 2026-02, as claims about the words of a list and the words of its sheet. Assumes nothing.
 use Prim.Native.Nat.{ℕ, _+_, _<_}
 use mathlib.Core.Path.{_≡_}
 use mathlib.Core.Logic.{_⊎_}
@@ -9,7 +9,7 @@ use Rattle.lists.specs.Select.{oneIf}
 use Rattle.words.specs.Words.{secondOf}
 use Rattle.station.specs.Station.{Station, stationOf, degree, noCable}
 use Rattle.order.specs.StOrder.{Smallest}
-use Rattle.drawing.specs.Drawing.{Drawing, routeAt, Meets}
+use Rattle.drawing.specs.Drawing.{Drawing, routeAt, Meets, crossings}
 use Rattle.drawing.specs.Sheet.{sheetWords}
 use Rattle.drawing.specs.Reading.{partsByRow, lengthsIn}
 use Rattle.drawing.specs.Sizes.{Sizes}
@@ -52,3 +52,7 @@ pub record Ordered (list sheet : List ℕ) : Type 0 where
   pub smallest : Smallest (stationOf list) (partsByRow (stationOf list .parts) sheet)
   -- 'Rank k stands in row d + k.'
   pub rows : (k : ℕ) → k < stationOf list .parts → rowOf sheet (getD (partsByRow (stationOf list .parts) sheet) k 0) ≡ rowsBelow (stationOf list) + k
+
+-- 2026-02: the count returned with a sheet is that of 'all pairs of cables whose lines cross, those that share a part too', in the drawing that its words show
+pub record Crossed (list sheet : List ℕ) (count : ℕ) : Type 0 where
+  pub pairs : count ≡ crossings (drawingOf list sheet)

@@ -1,7 +1,7 @@
 -- On the lines of a layout, the test whether two of them cross agrees with a test on five numbers: lane, lanes and columns. Assumes nothing.
 use Prim.Native.Nat.{ℕ, _<_, min, max}
 use mathlib.Core.Path.{_≡_, sym}
-use mathlib.Core.Bool.{true, _&&_, _||_}
+use mathlib.Core.Bool.{true, _&&_}
 use lib.Dec.{ltb}
 use borrow.Author.Tests.{ltb-true, lt-ltb}
 use Rattle.lists.proofs.Bools.{and-e, and-i, same-test}
@@ -9,7 +9,7 @@ use Rattle.order.specs.Graph.{StGraph, size}
 use Rattle.layout.specs.Points.{Course, pointsOf}
 use Rattle.drawing.specs.Crossing.{crossesOver, linesCross}
 use Rattle.drawing.proofs.Crossing.{crossesOver-e, crossesOver-i}
-use Rattle.layout.specs.Over.{over}
+use Rattle.layout.specs.Over.{over, coursesCross}
 use Rattle.layout.proofs.Facts.{Facts}
 use Rattle.layout.proofs.Meet.{Over, overSpot, over-crosses, courseAt, polyline, proper, crosses-over}
 
@@ -31,7 +31,7 @@ over-i c d O =
     and-i _ _ (and-i _ _ (and-i _ _ (lt-ltb _ _ (O .low)) (lt-ltb _ _ (O .high))) (lt-ltb _ _ (O .left))) (lt-ltb _ _ (O .right))
 
 module _ (G : StGraph) (x lo hi col row : ℕ → ℕ) (F : Facts G x lo hi col row) where
-  pub crossesOver-over :
+  crossesOver-over :
       (i j : ℕ) → i < size G → j < size G → (i ≡ j → ⊥)
       → crossesOver (polyline G x lo hi col row i) (polyline G x lo hi col row j)
       ≡ over (courseAt G x lo hi col row i) (courseAt G x lo hi col row j)
@@ -46,10 +46,10 @@ module _ (G : StGraph) (x lo hi col row : ℕ → ℕ) (F : Facts G x lo hi col 
       crossesOver-i (pointsOf c) (pointsOf d) (overSpot c d)
       (over-crosses c d (proper G x lo hi col row F i g) (proper G x lo hi col row F j h) (over-e c d e)))
 
-  pub linesCross-over :
+  -- of every two different cables, those that share a part too
+  pub linesCross-courses :
       (i j : ℕ) → i < size G → j < size G → (i ≡ j → ⊥)
       → linesCross (polyline G x lo hi col row i) (polyline G x lo hi col row j)
-      ≡ (over (courseAt G x lo hi col row i) (courseAt G x lo hi col row j)
-      || over (courseAt G x lo hi col row j) (courseAt G x lo hi col row i))
-  unfolding linesCross
-  linesCross-over i j g h f = rw (crossesOver-over i j g h f, crossesOver-over j i h g (λ e. f (sym e)))
+      ≡ coursesCross (courseAt G x lo hi col row i) (courseAt G x lo hi col row j)
+  unfolding linesCross coursesCross
+  linesCross-courses i j g h f = rw (crossesOver-over i j g h f, crossesOver-over j i h g (λ e. f (sym e)))

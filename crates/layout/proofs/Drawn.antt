@@ -1,23 +1,23 @@
--- The layout of an st-graph as a drawing: its parts and routes, how they meet, its sizes and its words. Assumes nothing.
+-- The layout of an st-graph as a drawing: its parts and routes, how they meet and cross, its sizes and its words. Assumes nothing.
 use Prim.Native.Nat.{ℕ, zero, suc, _+_, _-_, _*_, _<_, _≤_}
 use native.Mathlib.Omega.{arith}
-use mathlib.Core.Path.{_≡_, refl, sym, ap, subst, subst₂, _∙_}
+use mathlib.Core.Path.{_≡_, refl, sym, ap, ap₂, subst, subst₂, _∙_}
 use mathlib.Core.Logic.{_⊎_, ⊎-elim}
 use mathlib.Core.List.{List, [], _∷_, _++_, List·Memᴰ, List·Memᴰ·head, List·Memᴰ·tail, Memᴰ·append-left}
 use lib.ListN.{length, getD}
-use lib.Dec.{eqb, ltb}
+use lib.Dec.{ltb}
 use Rattle.words.specs.Limits.{mostParts}
 use Rattle.lists.specs.Select.{range, tabulate, count, sum}
 use Rattle.lists.proofs.Select.{getD-mem, getD-tabulate, length-tabulate}
 use Rattle.lists.proofs.Places.{mem-place, first-between-last}
 use Rattle.lists.proofs.Maps.{map-tabulate, count-tabulate}
-use Rattle.lists.proofs.Same.{same-eqb}
 use Rattle.lists.proofs.Sums.{sum-le}
 use Rattle.order.specs.Graph.{StGraph, size, lower, upper, Ranked}
 use Rattle.order.proofs.Graphs.{lower-inside, cables-le}
 use Rattle.drawing.specs.Spots.{Spot, origin}
 use Rattle.drawing.specs.Lines.{point, Meetings}
-use Rattle.drawing.specs.Drawing.{Route, noRoute, Drawing, spotOf, routePoints, routeAt, pointsAt, Meets}
+use Rattle.drawing.specs.Crossing.{linesCross}
+use Rattle.drawing.specs.Drawing.{Route, noRoute, Drawing, spotOf, routePoints, routeAt, pointsAt, Meets, crossPair}
 use Rattle.drawing.specs.Lengths.{lineLength, cableLengths, mostLength}
 use Rattle.drawing.specs.Sheet.{sheetWords}
 use Rattle.drawing.specs.Reading.{Ends, noEnds}
@@ -29,13 +29,15 @@ use Rattle.drawing.proofs.LengthWords.{LengthsFit}
 use Rattle.drawing.proofs.ReadBack.{SpotFits, AllFit, DrawingFits}
 use Rattle.drawing.proofs.WordCounts.{words-length, words-corners}
 use Rattle.layout.specs.Columns.{columns}
-use Rattle.layout.specs.Points.{turns, pointsOf, inner, cornersOf, bottomRows, topRows, row, partSpot, course, rankSpot, courseOf}
+use Rattle.layout.specs.Points.{turns, pointsOf, inner, cornersOf, bottomRows, topRows, partSpot, course, rankSpot, courseOf}
 use Rattle.layout.specs.Layout.{drawnIn, layout}
+use Rattle.layout.specs.Over.{coursesCross}
 use Rattle.layout.specs.Courses.{CourseFits}
 use Rattle.layout.proofs.Turns.{turns-points}
 use Rattle.layout.proofs.ExtraRows.{bottomRows-le, topRows-le}
 use Rattle.layout.proofs.Placed.{facts}
 use Rattle.layout.proofs.Meet.{meetings}
+use Rattle.layout.proofs.Cross.{linesCross-courses}
 use Rattle.layout.proofs.Sizes.{part-column-below, rising, corners-four, corners-many-count, spots-within, points-within, columns-count, corners-sum, width-spot, height-spot}
 use Rattle.layout.proofs.LineLengths.{line-most}
 
@@ -133,10 +135,15 @@ module _ (G : StGraph) (R : Ranked G) where
       })
       by-rank)
 
-  -- every rank has a row of its own
-  pub same-row : (j k : ℕ) → eqb (row G j) (row G k) ≡ eqb j k
-  unfolding row
-  same-row j k = same-eqb (bottomRows G + j) (bottomRows G + k) j k (λ e. omega arith) (λ e. omega arith)
+  -- Crossings
+
+  -- The test on numbers agrees with the definition, for every two different cables, sharing a part or not (2026-02).
+  pub pair-crosses :
+      (i j : ℕ) → i < size G → j < size G → (i ≡ j → ⊥)
+      → crossPair (layout G) (routeAt (layout G) i) (routeAt (layout G) j) ≡ coursesCross (courseOf G i) (courseOf G j)
+  unfolding crossPair pointsAt courseOf course rankSpot partSpot
+  pair-crosses i j g h f =
+      ap₂ linesCross (sym (points-at i g)) (sym (points-at j h)) ∙ linesCross-courses G _ _ _ _ _ (facts G R) i j g h f
 
   module _ (two : 2 ≤ G .parts) where
     -- Sizes

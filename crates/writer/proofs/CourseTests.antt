@@ -1,12 +1,11 @@
 -- The tests on two courses, one after the other: what decides each. Assumes nothing.
 use Prim.Native.Nat.{ℕ, _<_, _≤_, min, max}
-use mathlib.Core.Path.{_≡_, refl, sym}
-use mathlib.Core.Bool.{Bool, true, false, not, _&&_, _||_, and-true, and-false}
-use lib.Dec.{eqb, ltb}
-use borrow.Author.Tests.{lt-ltb, le-ltb, ne-eqb}
-use Rattle.drawing.specs.Drawing.{Route, shareEnd}
+use mathlib.Core.Path.{_≡_, refl}
+use mathlib.Core.Bool.{Bool, true, false, _&&_}
+use lib.Dec.{ltb}
+use borrow.Author.Tests.{lt-ltb, le-ltb}
 use Rattle.layout.specs.Points.{Course}
-use Rattle.layout.specs.Over.{over}
+use Rattle.layout.specs.Over.{over, coursesCross}
 
 -- by the least and the greatest of two numbers, whichever they are
 module _ (x a b low high : ℕ) (e : min a b ≡ low) (f : max a b ≡ high) where
@@ -30,18 +29,12 @@ module _ (c d : Course) where
   unfolding over
   over-3 e g h = rw (lt-ltb (d .low) (c .high) g, lt-ltb (c .high) (d .high) h) e
 
-pub share-4 :
-    (r q : Route) → (r .first ≡ q .first → ⊥) → (r .first ≡ q .last → ⊥) → (r .last ≡ q .first → ⊥) → eqb (r .last) (q .last) ≡ shareEnd r q
-unfolding shareEnd
-share-4 r q f g h = rw (ne-eqb (r .first) (q .first) f, ne-eqb (r .first) (q .last) g, ne-eqb (r .last) (q .first) h) refl
+-- either passes over the other, or neither does
+module _ (c d : Course) where
+  pub cross-1 : {o : Bool} → o ≡ over c d → o ≡ true → true ≡ coursesCross c d
+  unfolding coursesCross
+  cross-1 e h = rw (← e, h) refl
 
--- of two cables with a part in common or none, either of which may pass over the other
-module _ (shared one other : Bool) where
-  pub cross-1 : (o s : Bool) → o ≡ true → o ≡ one → s ≡ shared → not s ≡ (not shared && (one || other))
-  cross-1 o s t e f = rw (← e, t, ← f) (sym (and-true (not s)))
-
-  pub cross-2 : (o p s : Bool) → o ≡ false → p ≡ true → o ≡ one → p ≡ other → s ≡ shared → not s ≡ (not shared && (one || other))
-  cross-2 o p s t u e f g = rw (← e, ← f, t, u, ← g) (sym (and-true (not s)))
-
-  pub cross-3 : (o p : Bool) → o ≡ false → p ≡ false → o ≡ one → p ≡ other → false ≡ (not shared && (one || other))
-  cross-3 o p t u e f = rw (← e, ← f, t, u) (sym (and-false (not shared)))
+  pub cross-2 : {o p : Bool} → o ≡ over c d → p ≡ over d c → o ≡ false → p ≡ coursesCross c d
+  unfolding coursesCross
+  cross-2 e f h = rw (← e, h) f

@@ -1,37 +1,33 @@
 -- What the values of a layout say of its drawing: its parts, its sizes, its courses with their lengths, and which of them cross. Assumes nothing.
 use Prim.Native.Nat.{ℕ, _+_, _-_, _*_, _<_, _≤_}
 use native.Mathlib.Omega.{arith}
-use mathlib.Core.Path.{_≡_, refl, sym, ap, ap₂, subst, _∙_}
-use mathlib.Core.Bool.{Bool, not, _&&_, _||_}
+use mathlib.Core.Path.{_≡_, sym, ap, ap₂, subst, _∙_}
 use mathlib.Core.List.{List}
 use lib.ListN.{length, getD}
 use lib.Seq.{getD-take}
 use Rattle.lists.proofs.Sums.{sum-le}
 use Rattle.order.specs.declared.Ranking.{Ranking}
-use Rattle.order.specs.Graph.{StGraph, size, lower, upper, Ranked}
+use Rattle.order.specs.Graph.{StGraph, size, Ranked}
 use Rattle.order.specs.Arrays.{graphIn}
 use Rattle.order.specs.Order.{rankIn}
 use Rattle.order.specs.Ranking.{namesIn, Inverse}
 use Rattle.order.proofs.LineRanks.{rankAt, rank-number}
 use Rattle.drawing.specs.Spots.{spotAt}
-use Rattle.drawing.specs.Crossing.{linesCross}
-use Rattle.drawing.specs.Drawing.{Route, spotOf, routeAt, pointsAt, Meets, shareEnd, crossPair}
+use Rattle.drawing.specs.Drawing.{Route, spotOf, routeAt, pointsAt, Meets, crossPair}
 use Rattle.drawing.specs.Lengths.{lineLength}
 use Rattle.drawing.specs.Sheet.{routeWords, sheetWords}
 use Rattle.drawing.proofs.Renumbered.{Names, parts-renumbered, spot-renumbered}
 use Rattle.layout.specs.declared.Course as code-course
 use Rattle.layout.specs.declared.Layout.{Layout}
 use Rattle.layout.specs.Columns.{columns}
-use Rattle.layout.specs.Points.{Course, pointsOf, cornersOf, row, partSpot, course, rankSpot, courseOf}
+use Rattle.layout.specs.Points.{Course, pointsOf, cornersOf, row, partSpot, rankSpot}
 use Rattle.layout.specs.Layout.{drawnIn, layout}
-use Rattle.layout.specs.Over.{over}
+use Rattle.layout.specs.Over.{coursesCross}
 use Rattle.layout.specs.Courses.{CourseFits}
 use Rattle.layout.specs.Arrays.{courseIn, noCourse, IsLayout}
 use Rattle.layout.proofs.Lengths as of-graph
 use Rattle.layout.proofs.ExtraRows.{bottomRows-le}
-use Rattle.layout.proofs.Placed.{facts}
-use Rattle.layout.proofs.Cross.{linesCross-over}
-use Rattle.layout.proofs.Drawn.{parts-count, routes-count, spot-of, route-at, points-at, meets, same-row, parts-le, words-count, column-fits, course-fits, fits}
+use Rattle.layout.proofs.Drawn.{parts-count, routes-count, spot-of, route-at, points-at, meets, pair-crosses, parts-le, words-count, column-fits, course-fits, fits}
 use Rattle.writer.specs.Values.{layoutIn, numberedIn, routeIn}
 use Rattle.writer.proofs.Sections.{route-words, lengthBefore}
 
@@ -70,16 +66,6 @@ module _ (l : Layout) (L : IsLayout l) where
 
   pub layout-meets : Meets (layoutIn l)
   layout-meets = meets G ranked
-
-  -- Rows of a course
-
-  from-row : (i : ℕ) → i < l .graph .cables → courseAt l i .from .y ≡ row G (lower G i)
-  unfolding courseOf course partSpot
-  from-row i h = ap (λ (c : Course). c .from .y) (L .courses i h)
-
-  to-row : (i : ℕ) → i < l .graph .cables → courseAt l i .to .y ≡ row G (upper G i)
-  unfolding courseOf course partSpot
-  to-row i h = ap (λ (c : Course). c .to .y) (L .courses i h)
 
   module _ (room : AllPlaces l) where
     lines : size G ≡ l .graph .cables
@@ -135,46 +121,12 @@ module _ (l : Layout) (L : IsLayout l) where
 
     -- Crossings
 
-    -- rows tell parts apart as ranks do
-    same-parts :
-        (a b : ℕ) → a < l .graph .cables → b < l .graph .cables
-        → shareEnd (routeIn (courseAt l a)) (routeIn (courseAt l b)) ≡ shareEnd (routeAt (layoutIn l) a) (routeAt (layoutIn l) b)
-    unfolding shareEnd
-    same-parts a b h g =
-        rw (
-          route-at G a (inside a h),
-          route-at G b (inside b g),
-          from-row a h,
-          to-row a h,
-          from-row b g,
-          to-row b g,
-          same-row G ranked (lower G a) (lower G b),
-          same-row G ranked (lower G a) (upper G b),
-          same-row G ranked (upper G a) (lower G b),
-          same-row G ranked (upper G a) (upper G b),
-        )
-        refl
-
-    -- two lines cross where the upper level run of one is over the column of the other
-    same-lines :
-        (a b : ℕ) → a < b → b < size G
-        → linesCross (pointsAt (layoutIn l) a) (pointsAt (layoutIn l) b) ≡ (over (courseOf G a) (courseOf G b) || over (courseOf G b) (courseOf G a))
-    unfolding courseOf course rankSpot partSpot
-    same-lines a b h g =
-        let f : a < size G = omega arith in
-        ap₂ linesCross (sym (points-at G ranked a f)) (sym (points-at G ranked b g))
-        ∙ linesCross-over G _ _ _ _ _ (facts G ranked) a b f g (λ e. omega arith)
-
     pub cross-is :
         (a b : ℕ) → a < b → b < l .graph .cables
-        → (not (shareEnd (routeIn (courseAt l a)) (routeIn (courseAt l b)))
-        && (over (courseIn (courseAt l a)) (courseIn (courseAt l b)) || over (courseIn (courseAt l b)) (courseIn (courseAt l a))))
-        ≡ crossPair (layoutIn l) (routeAt (layoutIn l) a) (routeAt (layoutIn l) b)
-    unfolding crossPair pointsAt
+        → coursesCross (courseIn (courseAt l a)) (courseIn (courseAt l b)) ≡ crossPair (layoutIn l) (routeAt (layoutIn l) a) (routeAt (layoutIn l) b)
     cross-is a b h g =
         let f : a < l .graph .cables = omega arith in
-        ap₂ (λ (s o : Bool). not s && o) (same-parts a b f g)
-        (ap₂ (λ (c d : Course). over c d || over d c) (L .courses a f) (L .courses b g) ∙ sym (same-lines a b h (inside b g)))
+        ap₂ coursesCross (L .courses a f) (L .courses b g) ∙ sym (pair-crosses G ranked a b (inside a f) (inside b g) (λ e. omega arith))
 
   -- Parts by number
 

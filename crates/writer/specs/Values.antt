@@ -17,6 +17,6 @@ layoutIn l = drawn.layout (graphIn (l .graph))
 abbrev pub numberedIn : Ranking → Layout → Drawing
 numberedIn r l = renumbered (namesIn (l .graph .parts) r) (layoutIn l)
 
--- A cable as its course alone tells it: 'Rank k stands in row d + k', so that a row tells its part.
+-- A cable as its course alone tells it, its parts by their rows: 'Rank k stands in row d + k.'
 abbrev pub routeIn : Course → Route
 routeIn c = record { first = c .from .y; last = c .to .y; corners = cornersOf (courseIn c) }

@@ -1,17 +1,17 @@
-// 'the crossings: the pairs of cables with no part in common whose lines cross'.
+// 2026-02: the crossings are 'all pairs of cables whose lines cross, those that share a part too'.
 use layout::Course;
 use layout::Layout;
 use lists::one_if;
 ghost use mathlib.Core.Path.{_≡_};
-ghost use mathlib.Core.Bool.{not, _&&_, _||_};
+ghost use mathlib.Core.Bool.{_&&_};
 ghost use Prim.Native.Nat.{_+_, _<_, min, max};
 ghost use lib.ListN.{drop};
 ghost use lib.Dec.{ltb};
 ghost use Rattle.lists.specs.Select.{count};
-ghost use Rattle.drawing.specs.Drawing.{routeAt, shareEnd, crossPair, crossings};
-ghost use Rattle.layout.specs.Over.{over};
+ghost use Rattle.drawing.specs.Drawing.{routeAt, crossPair, crossings};
+ghost use Rattle.layout.specs.Over.{over, coursesCross};
 ghost use Rattle.layout.specs.Arrays.{courseIn, IsLayout};
-ghost use Rattle.writer.specs.Values.{layoutIn, routeIn};
+ghost use Rattle.writer.specs.Values.{layoutIn};
 
 // x lies strictly between a and b.
 fn lies_between(x: u16, a: u16, b: u16) -> bool
@@ -37,33 +37,14 @@ fn passes_over(c: Course, d: Course) -> bool
     lies_between(d.column, c.column, c.to.x)
 }
 
-// The two cables have a part in common: each part has a row of its own.
-fn share_row(c: Course, d: Course) -> bool
-    ensures { λ r. ⌜ r ≡ shareEnd (routeIn c) (routeIn d) ⌝ }
-{
-    if c.from.y == d.from.y {
-        return true;
-    }
-    if c.from.y == d.to.y {
-        return true;
-    }
-    if c.to.y == d.from.y {
-        return true;
-    }
-    c.to.y == d.to.y
-}
-
-// Two cables cross. Few of the pairs pass over, so that this is tested first.
+// Two cables cross: one of them passes over the other.
 fn cross(c: Course, d: Course) -> bool
-    ensures { λ r. ⌜ r ≡ (not (shareEnd (routeIn c) (routeIn d)) && (over (courseIn c) (courseIn d) || over (courseIn d) (courseIn c))) ⌝ }
+    ensures { λ r. ⌜ r ≡ coursesCross (courseIn c) (courseIn d) ⌝ }
 {
     if passes_over(c, d) {
-        return !share_row(c, d);
+        return true;
     }
-    if passes_over(d, c) {
-        return !share_row(c, d);
-    }
-    false
+    passes_over(d, c)
 }
 
 // The cables behind line i that cross its cable.
@@ -83,6 +64,7 @@ fn crossings_of(layout: Layout, i: usize) -> usize
     got
 }
 
+// Each cable with those behind it.
 pub fn count_crossings(layout: Layout) -> usize
     requires { ⌜ IsLayout layout ⌝ }
     ensures { λ r. ⌜ r ≡ crossings (layoutIn layout) ⌝ }
