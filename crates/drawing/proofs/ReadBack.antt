@@ -74,9 +74,9 @@ corners-dropped l w rest k e = rw (add-one k) (drop-at (map cornerSpotWord l) re
 -- the words of the first route, and all behind them
 route-front :
     (line : ℕ) (r : Route) (rs : List Route) (rest : List ℕ)
-    → routesWords line (r ∷ rs) ++ rest ≡ routeWords line r ++ (routesWords (line + 1) rs ++ rest)
+    → routesWords line (r ∷ rs) ++ rest ≡ routeWords line (r .corners) ++ (routesWords (line + 1) rs ++ rest)
 unfolding routesWords
-route-front line r rs rest = append-assoc (routeWords line r) (routesWords (line + 1) rs) rest
+route-front line r rs rest = append-assoc (routeWords line (r .corners)) (routesWords (line + 1) rs) rest
 
 routes-back :
     (es : List Ends) (rs : List Route) (line : ℕ) (rest : List ℕ) → length rs ≡ length es
@@ -87,7 +87,7 @@ routes-back [] (r ∷ rs) line rest h f = absurd (omega arith)
 routes-back (e ∷ es) [] line rest h f = absurd (omega arith)
 routes-back (e ∷ es) (r ∷ rs) line rest h f =
     let fit : RouteFits e r = f 0 (omega arith) in
-    let w : ℕ = getD (routeWords line r) 0 0 in
+    let w : ℕ = getD (routeWords line (r .corners)) 0 0 in
     let behind : List ℕ = routesWords (line + 1) rs ++ rest in
     let count : secondOf w ≡ length (r .corners) = omega (arith, fit .few) in
     ap (routesIn (e ∷ es)) (route-front line r rs rest)
@@ -108,7 +108,7 @@ routes-behind [] (r ∷ rs) line rest h f = absurd (omega arith)
 routes-behind (e ∷ es) [] line rest h f = absurd (omega arith)
 routes-behind (e ∷ es) (r ∷ rs) line rest h f =
     let fit : RouteFits e r = f 0 (omega arith) in
-    let w : ℕ = getD (routeWords line r) 0 0 in
+    let w : ℕ = getD (routeWords line (r .corners)) 0 0 in
     let behind : List ℕ = routesWords (line + 1) rs ++ rest in
     ap (behindCables (length (r ∷ rs))) (route-front line r rs rest)
     ∙ ap (behindCables (length rs)) (corners-dropped (r .corners) w behind (secondOf w) (omega (arith, fit .few)))
@@ -187,14 +187,14 @@ unfolding cornerSpotWord
 corner-word-fits s f = fields-apart corner (s .x) (s .y) (omega arith) (f .x-fits) (f .y-fits) .fits
 
 route-words-fit :
-    (line : ℕ) (r : Route) → line < 65536 → length (r .corners) < 4096 → AllFit (r .corners)
-    → (w : ℕ) → List·Memᴰ w (routeWords line r) → w < 2 ^ 32
+    (line : ℕ) (corners : List Spot) → line < 65536 → length corners < 4096 → AllFit corners
+    → (w : ℕ) → List·Memᴰ w (routeWords line corners) → w < 2 ^ 32
 unfolding routeWords
-route-words-fit line r h few f w m = go (List·Memᴰ·cases-cons m)
+route-words-fit line corners h few f w m = go (List·Memᴰ·cases-cons m)
   where
-    go : (w ≡ sheetCableWord line (length (r .corners))) ⊎ List·Memᴰ w (map cornerSpotWord (r .corners)) → w < 2 ^ 32
-    go (inl e) = omega (arith, lineFields-apart sheetCable line (length (r .corners)) (omega arith) h few .fits)
-    go (inr n) = spot-words-fit cornerSpotWord corner-word-fits (r .corners) f w n
+    go : (w ≡ sheetCableWord line (length corners)) ⊎ List·Memᴰ w (map cornerSpotWord corners) → w < 2 ^ 32
+    go (inl e) = omega (arith, lineFields-apart sheetCable line (length corners) (omega arith) h few .fits)
+    go (inr n) = spot-words-fit cornerSpotWord corner-word-fits corners f w n
 
 routes-words-fit :
     (es : List Ends) (rs : List Route) (line : ℕ) → length rs ≡ length es → line + length es ≤ 65536
@@ -207,10 +207,10 @@ routes-words-fit (c ∷ cs) [] line e h f w m = absurd (omega arith)
 routes-words-fit (c ∷ cs) (r ∷ rs) line e h f w m =
     let fit : RouteFits c r = f 0 (omega arith) in
     ⊎-elim
-    (λ (n : List·Memᴰ w (routeWords line r)). route-words-fit line r (omega arith) (fit .few) (fit .corners-fit) w n)
+    (λ (n : List·Memᴰ w (routeWords line (r .corners))). route-words-fit line (r .corners) (omega arith) (fit .few) (fit .corners-fit) w n)
     (λ (n : List·Memᴰ w (routesWords (line + 1) rs)).
     routes-words-fit cs rs (line + 1) (omega arith) (omega arith) (λ i g. f (suc i) (omega arith)) w n)
-    (List·Memᴰ·append-cases (routeWords line r) m)
+    (List·Memᴰ·append-cases (routeWords line (r .corners)) m)
 
 pub words-fit :
     (n : ℕ) (ends : List Ends) (d : Drawing) → DrawingFits n ends d → length ends ≤ 65536

@@ -23,15 +23,15 @@ use Rattle.drawing.proofs.ReadBack.{SpotFits, AllFit, RouteFits, Drawin
 
 -- The length
 
-pub route-length : (line : ℕ) (r : Route) → length (routeWords line r) ≡ 1 + length (r .corners)
+pub route-length : (line : ℕ) (corners : List Spot) → length (routeWords line corners) ≡ 1 + length corners
 unfolding routeWords
-route-length line r = omega (arith, length-map (r .corners) cornerSpotWord)
+route-length line corners = omega (arith, length-map corners cornerSpotWord)
 
 pub routes-length : (line : ℕ) (rs : List Route) → length (routesWords line rs) ≡ length rs + cornerCount rs
 unfolding routesWords sum
 routes-length line [] = refl
 routes-length line (r ∷ rs) =
-    omega (arith, length-append (routeWords line r) (routesWords (line + 1) rs), route-length line r, routes-length (line + 1) rs)
+    omega (arith, length-append (routeWords line (r .corners)) (routesWords (line + 1) rs), route-length line (r .corners), routes-length (line + 1) rs)
 
 pub head-length : (d : Drawing) → length (headSection d) ≡ 1
 unfolding headSection
@@ -95,15 +95,15 @@ corner-corner s f =
     eq-eqb (kindOf (cornerSpotWord s)) corner (fields-apart corner (s .x) (s .y) (omega arith) (f .x-fits) (f .y-fits) .kind-is)
 
 route-corners :
-    (line : ℕ) (r : Route) → line < 65536 → length (r .corners) < 4096 → AllFit (r .corners)
-    → count isCorner (routeWords line r) ≡ length (r .corners)
+    (line : ℕ) (corners : List Spot) → line < 65536 → length corners < 4096 → AllFit corners
+    → count isCorner (routeWords line corners) ≡ length corners
 unfolding routeWords count
-route-corners line r h few f =
-    let w : ℕ = sheetCableWord line (length (r .corners)) in
+route-corners line corners h few f =
+    let w : ℕ = sheetCableWord line (length corners) in
     omega (
       arith,
-      ap oneIf (no-corner sheetCable w (lineFields-apart sheetCable line (length (r .corners)) (omega arith) h few .kind-is) (λ e. omega arith)),
-      count-every cornerSpotWord corner-corner (r .corners) f,
+      ap oneIf (no-corner sheetCable w (lineFields-apart sheetCable line (length corners) (omega arith) h few .kind-is) (λ e. omega arith)),
+      count-every cornerSpotWord corner-corner corners f,
     )
 
 routes-corners :
@@ -117,8 +117,8 @@ routes-corners (c ∷ cs) (r ∷ rs) line e h f =
     let fit : RouteFits c r = f 0 (omega arith) in
     omega (
       arith,
-      count-append isCorner (routeWords line r) (routesWords (line + 1) rs),
-      route-corners line r (omega arith) (fit .few) (fit .corners-fit),
+      count-append isCorner (routeWords line (r .corners)) (routesWords (line + 1) rs),
+      route-corners line (r .corners) (omega arith) (fit .few) (fit .corners-fit),
       routes-corners cs rs (line + 1) (omega arith) (omega arith) (λ i g. f (suc i) (omega arith)),
     )
 

@@ -16,13 +16,13 @@ unfoldable pub cornerSpotWord : Spot → ℕ
 cornerSpotWord p = cornerWord (p .x) (p .y)
 
 -- a cable's own words, head and corners
-unfoldable pub routeWords : ℕ → Route → List ℕ
-routeWords line r = sheetCableWord line (length (r .corners)) ∷ map cornerSpotWord (r .corners)
+unfoldable pub routeWords : ℕ → List Spot → List ℕ
+routeWords line corners = sheetCableWord line (length corners) ∷ map cornerSpotWord corners
 
 -- the words of the cables from a line on
 unfoldable pub routesWords : ℕ → List Route → List ℕ
 routesWords line [] = []
-routesWords line (r ∷ rs) = routeWords line r ++ routesWords (line + 1) rs
+routesWords line (r ∷ rs) = routeWords line (r .corners) ++ routesWords (line + 1) rs
 
 -- 2026-01: 'm words of kind 8', the lengths by line, 'then one of kind 10 with the total', which is their sum
 unfoldable pub lengthWords : List ℕ → List ℕ

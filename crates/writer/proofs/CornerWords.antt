@@ -15,7 +15,6 @@ use Rattle.lists.proofs.Tests.{oneIf-le}
 use Rattle.lists.proofs.Stores.{stored-none, stored-append, stored-as, stored-kept}
 use Rattle.words.specs.Words.{cornerWord, sheetCableWord}
 use Rattle.drawing.specs.Spots.{Spot}
-use Rattle.drawing.specs.Drawing.{Route}
 use Rattle.drawing.specs.Sheet.{cornerSpotWord, routeWords}
 use Rattle.layout.specs.Points.{Course, turns, dropRepeats, pointsOf, inner, cornersOf}
 use Rattle.layout.proofs.Turns.{same-column, same-row}
@@ -137,17 +136,17 @@ corner-few c h =
     omega (arith, corner-count c h, oneIf-le (dips c && shifts c), oneIf-le (dips c || shifts c), oneIf-le (returns c), oneIf-le (drops c))
 
 pub head-stored :
-    (line : ℕ) (r : Route) {l m n : List ℕ} {at next behind w : ℕ} → Stored l (at + 1) (map cornerSpotWord (r .corners)) m next
-    → w ≡ sheetCableWord line (next - at - 1) → Stored m at (w ∷ []) n behind → Stored l at (routeWords line r) n next
+    (line : ℕ) (corners : List Spot) {l m n : List ℕ} {at next behind w : ℕ} → Stored l (at + 1) (map cornerSpotWord corners) m next
+    → w ≡ sheetCableWord line (next - at - 1) → Stored m at (w ∷ []) n behind → Stored l at (routeWords line corners) n next
 unfolding routeWords
-head-stored line r {l} {m} {n} {at} {next} {behind} {w} S e H =
-    let k : next ≡ at + 1 + length (r .corners) = omega (arith, S .place, length-map (r .corners) cornerSpotWord) in
-    let f : w ≡ sheetCableWord line (length (r .corners)) = omega (arith, e, k) in
+head-stored line corners {l} {m} {n} {at} {next} {behind} {w} S e H =
+    let k : next ≡ at + 1 + length corners = omega (arith, S .place, length-map corners cornerSpotWord) in
+    let f : w ≡ sheetCableWord line (length corners) = omega (arith, e, k) in
     record {
       place = omega (arith, S .place);
       row =
           H .row
           ∙ ap (λ (z : List ℕ). set z at w) (S .row)
-          ∙ sets-head l (map cornerSpotWord (r .corners)) at (at + 1) w (omega arith)
-          ∙ ap₂ (λ (z n : ℕ). sets (set l at z) n (map cornerSpotWord (r .corners))) f (omega arith);
+          ∙ sets-head l (map cornerSpotWord corners) at (at + 1) w (omega arith)
+          ∙ ap₂ (λ (z n : ℕ). sets (set l at z) n (map cornerSpotWord corners)) f (omega arith);
     }

@@ -28,8 +28,8 @@ use Rattle.layout.specs.Arrays.{courseIn, noCourse, IsLayout}
 use Rattle.layout.proofs.Lengths as of-graph
 use Rattle.layout.proofs.ExtraRows.{bottomRows-le}
 use Rattle.layout.proofs.Drawn.{parts-count, routes-count, spot-of, route-at, points-at, meets, pair-crosses, parts-le, words-count, column-fits, course-fits, fits}
-use Rattle.writer.specs.Values.{layoutIn, numberedIn, routeIn}
-use Rattle.writer.proofs.Sections.{route-words, lengthBefore}
+use Rattle.writer.specs.Values.{layoutIn, numberedIn}
+use Rattle.writer.proofs.Sections.{lengthBefore}
 
 -- the course of the cable at line i
 abbrev pub courseAt : Layout → ℕ → code-course.Course
@@ -105,10 +105,10 @@ module _ (l : Layout) (L : IsLayout l) where
     course-small i h =
         subst (λ (c : Course). CourseFits c) (sym (L .courses i h)) (course-fits G ranked (L .fits .least) (L .fits .most) i (inside i h))
 
-    pub route-is : (line i : ℕ) → i < l .graph .cables → routeWords line (routeIn (courseAt l i)) ≡ routeWords line (routeAt (layoutIn l) i)
+    pub route-is :
+        (line i : ℕ) → i < l .graph .cables → routeWords line (cornersOf (courseIn (courseAt l i))) ≡ routeWords line (routeAt (layoutIn l) i .corners)
     route-is line i h =
-        route-words line (routeIn (courseAt l i)) (routeAt (layoutIn l) i)
-        (ap cornersOf (L .courses i h) ∙ sym (ap (λ (r : Route). r .corners) (route-at G i (inside i h))))
+        ap (routeWords line) (ap cornersOf (L .courses i h) ∙ sym (ap (λ (r : Route). r .corners) (route-at G i (inside i h))))
 
     -- Lengths
 

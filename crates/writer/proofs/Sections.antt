@@ -22,14 +22,10 @@ use Rattle.drawing.proofs.Renumbered.{Names, lengths-renumbered}
 
 -- Cables by their corners
 
-pub route-words : (line : ℕ) (r q : Route) → r .corners ≡ q .corners → routeWords line r ≡ routeWords line q
-unfolding routeWords
-route-words line r q e = rw e refl
-
 kept-words : (f : Route → Route) → ((r : Route) → f r .corners ≡ r .corners) → (line : ℕ) (rs : List Route) → routesWords line (map f rs) ≡ routesWords line rs
 unfolding routesWords
 kept-words f h line [] = refl
-kept-words f h line (r ∷ rs) = ap₂ (λ (a b : List ℕ). a ++ b) (route-words line (f r) r (h r)) (kept-words f h (line + 1) rs)
+kept-words f h line (r ∷ rs) = ap₂ (λ (a b : List ℕ). a ++ b) (ap (routeWords line) (h r)) (kept-words f h (line + 1) rs)
 
 cables-renumbered : (names : List ℕ) (d : Drawing) → cablesSection (renumbered names d) ≡ cablesSection d
 unfolding cablesSection renumbered
@@ -59,11 +55,11 @@ module _ (d : Drawing) where
   abbrev pub cablesFrom : ℕ → List ℕ
   cablesFrom line = routesWords line (drop line (d .routes))
 
-  pub cables-next : (line : ℕ) → line < length (d .routes) → cablesFrom line ≡ routeWords line (routeAt d line) ++ cablesFrom (line + 1)
+  pub cables-next : (line : ℕ) → line < length (d .routes) → cablesFrom line ≡ routeWords line (routeAt d line .corners) ++ cablesFrom (line + 1)
   unfolding routesWords routeAt
   cables-next line h =
       ap (routesWords line) (drop-cons (d .routes) line noRoute h)
-      ∙ ap (λ (k : ℕ). routeWords line (getD (d .routes) line noRoute) ++ routesWords (line + 1) (drop k (d .routes))) (sym (add-one line))
+      ∙ ap (λ (k : ℕ). routeWords line (getD (d .routes) line noRoute .corners) ++ routesWords (line + 1) (drop k (d .routes))) (sym (add-one line))
 
   pub cables-end : (line : ℕ) → length (d .routes) ≤ line → cablesFrom line ≡ []
   unfolding routesWords

@@ -2,11 +2,8 @@
 use Rattle.order.specs.declared.Ranking.{Ranking}
 use Rattle.order.specs.Arrays.{graphIn}
 use Rattle.order.specs.Ranking.{namesIn}
-use Rattle.drawing.specs.Drawing.{Route, Drawing, renumbered}
-use Rattle.layout.specs.declared.Course.{Course}
+use Rattle.drawing.specs.Drawing.{Drawing, renumbered}
 use Rattle.layout.specs.declared.Layout.{Layout}
-use Rattle.layout.specs.Points.{cornersOf}
-use Rattle.layout.specs.Arrays.{courseIn}
 use Rattle.layout.specs.Layout as drawn
 
 -- the drawing of a layout, whose parts are numbered by rank
@@ -16,7 +13,3 @@ layoutIn l = drawn.layout (graphIn (l .graph))
 -- the same drawing, with each part by its own number
 abbrev pub numberedIn : Ranking → Layout → Drawing
 numberedIn r l = renumbered (namesIn (l .graph .parts) r) (layoutIn l)
-
--- A cable as its course alone tells it, its parts by their rows: 'Rank k stands in row d + k.'
-abbrev pub routeIn : Course → Route
-routeIn c = record { first = c .from .y; last = c .to .y; corners = cornersOf (courseIn c) }

@@ -19,7 +19,7 @@ ghost use Rattle.drawing.specs.Sheet.{partSpotWord, cornerSpotWord, routeWords,
 ghost use Rattle.layout.specs.Points.{cornersOf};
 ghost use Rattle.layout.specs.Arrays.{courseIn, IsLayout};
 ghost use Rattle.layout.specs.Courses.{CourseFits};
-ghost use Rattle.writer.specs.Values.{layoutIn, numberedIn, routeIn};
+ghost use Rattle.writer.specs.Values.{layoutIn, numberedIn};
 
 // '3m - n + 3 + d + e words', and m + 1 lengths (2026-01).
 pub fn count_words(layout: Layout) -> usize
@@ -119,8 +119,8 @@ fn put_corners(sheet: &mut [u32], at: usize, c: Course) -> usize
 // A cable's own words. The head counts the corners, so that it is written behind them.
 fn put_cable(sheet: &mut [u32], at: usize, line: u16, c: Course) -> usize
     requires { ⌜ CourseFits (courseIn c) ⌝ }
-    requires { ⌜ at + length (routeWords line (routeIn c)) ≤ length (now sheet) ⌝ }
-    ensures { λ r. ⌜ Stored (now (sheet .entry)) at (routeWords line (routeIn c)) (now (sheet .exit)) r ⌝ }
+    requires { ⌜ at + length (routeWords line (cornersOf (courseIn c))) ≤ length (now sheet) ⌝ }
+    ensures { λ r. ⌜ Stored (now (sheet .entry)) at (routeWords line (cornersOf (courseIn c))) (now (sheet .exit)) r ⌝ }
 {
     let next = put_corners(sheet, at + 1, c);
     put(sheet, at, Word::sheet_cable(line, (next - at - 1) as u16));

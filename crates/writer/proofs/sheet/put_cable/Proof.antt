@@ -3,8 +3,8 @@ use native.Mathlib.Omega.{arith}
 use mathlib.Core.Path.{_∙_}
 use borrow.Author.Needs.{needs}
 use Rattle.drawing.proofs.WordCounts.{route-length}
+use Rattle.layout.specs.Points.{cornersOf}
 use Rattle.layout.specs.Arrays.{courseIn}
-use Rattle.writer.specs.Values.{routeIn}
 use Rattle.writer.proofs.CornerWords.{corners-next, corner-few, head-stored}
 use Rattle.writer.proofs.sheet.put_cable.Statement.{statement}
 use Rattle.writer.proofs.sheet.put_cable.Tie as tie
@@ -15,7 +15,7 @@ add-put-corners c = search needs
 put-corners-requires : tie.Need-put-corners-requires
 put-corners-requires c κs =
     let s = c .before .before in
-    (s .pre .0, omega (arith, route-length (s .args .line) (routeIn (s .args .c)), s .pre .1))
+    (s .pre .0, omega (arith, route-length (s .args .line) (cornersOf (courseIn (s .args .c))), s .pre .1))
 
 sub-sheet-cable : tie.Need-sub-sheet-cable
 sub-sheet-cable c = search needs
@@ -39,7 +39,7 @@ put-requires : tie.Need-put-requires
 put-requires c κs =
     let k = c .before .before .before .before in
     let s = k .before .before .before in
-    omega (arith, route-length (s .args .line) (routeIn (s .args .c)), s .pre .1, k .put-corners .kept .0)
+    omega (arith, route-length (s .args .line) (cornersOf (courseIn (s .args .c))), s .pre .1, k .put-corners .kept .0)
 
 same-length : tie.Need-same-length
 same-length c =
@@ -51,7 +51,7 @@ returns c =
     let h = c .before .before in
     let k = h .before .before .before .before .before in
     let s = k .before .before .before in
-    head-stored (s .args .line) (routeIn (s .args .c)) (k .put-corners .ensures) (h .before .sheet-cable .ensures) (h .put .ensures)
+    head-stored (s .args .line) (cornersOf (courseIn (s .args .c))) (k .put-corners .ensures) (h .before .sheet-cable .ensures) (h .put .ensures)
 
 pub put-cable-spec : {M : Type 1} → statement M
 put-cable-spec =

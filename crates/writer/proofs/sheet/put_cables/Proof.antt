@@ -47,7 +47,7 @@ put-cable-requires c κs =
         arith,
         storing-room (s .pre .1) (l .inv .1),
         ap length (cables-next d (l .line) (omega (arith, h, route-count (s .args .t3) (s .pre .0) (room s)))),
-        length-append (routeWords (l .line) (routeAt d (l .line))) (cablesFrom d (l .line + 1)),
+        length-append (routeWords (l .line) (routeAt d (l .line) .corners)) (cablesFrom d (l .line + 1)),
         ap length (route-is (s .args .t3) (s .pre .0) (room s) (l .line) (l .line) h),
       ),
     )
