@@ -11,7 +11,7 @@ use Rattle.lists.proofs.Select.{getD-map, length-tabulate, getD-tabulate}
 use Rattle.lists.proofs.Agree.{tabulate-same}
 use Rattle.lists.proofs.Places.{mem-place}
 use Rattle.lists.proofs.Maps.{count-map}
-use Rattle.lists.proofs.Same.{count-same}
+use Rattle.lists.proofs.Filters.{count-same}
 use Rattle.drawing.specs.Spots.{Spot, origin}
 use Rattle.drawing.specs.Lines.{Meetings}
 use Rattle.drawing.specs.Crossing.{linesCross}

@@ -1,8 +1,8 @@
--- Laws of selection: two tests one after the other are both at once, tests that agree select the same, and a search finds the first selected. Assumes nothing.
+-- Laws of selection: two tests one after the other are both at once, tests that agree select the same and as many, and a search finds the first selected. Assumes nothing.
 use Prim.Native.Nat.{ℕ, zero, suc, _+_, _<_, _≤_}
 use native.Mathlib.Omega.{arith}
 use native.Mathlib.Numerals.{add-one}
-use mathlib.Core.Path.{_≡_, refl, ap}
+use mathlib.Core.Path.{_≡_, refl, sym, ap, _∙_}
 use mathlib.Core.Bool.{Bool, true, false, cond, _&&_}
 use mathlib.Core.List.{List, [], _∷_, List·Memᴰ, List·Memᴰ·head, List·Memᴰ·tail}
 use lib.ListN.{length, getD, drop, drop-of-length-le}
@@ -11,13 +11,17 @@ use borrow.Author.Tests.{ne-eqb}
 use Rattle.lists.specs.declared.Found.{Found}
 use Rattle.lists.specs.declared.Found.the-variants.{At, Nothing}
 use Rattle.lists.specs.Search.{seek}
-use Rattle.lists.specs.Select.{upFrom, any, consIf, filter, oneIf, without}
+use Rattle.lists.specs.Select.{upFrom, any, consIf, filter, oneIf, count, without}
+use Rattle.lists.proofs.Select.{length-filter}
 
 module _ {A : Type 0} where
   pub filter-same : (p q : A → Bool) (l : List A) → ((x : A) → List·Memᴰ x l → p x ≡ q x) → filter p l ≡ filter q l
   unfolding filter
   filter-same p q [] h = refl
   filter-same p q (x ∷ xs) h = rw (h x (List·Memᴰ·head refl), filter-same p q xs (λ y m. h y (List·Memᴰ·tail m))) refl
+
+  pub count-same : (p q : A → Bool) (l : List A) → ((x : A) → List·Memᴰ x l → p x ≡ q x) → count p l ≡ count q l
+  count-same p q l h = sym (length-filter p l) ∙ ap (λ (k : List A). length k) (filter-same p q l h) ∙ length-filter q l
 
   pub filter-filter : (p q : A → Bool) (l : List A) → filter p (filter q l) ≡ filter (λ x. q x && p x) l
   unfolding filter

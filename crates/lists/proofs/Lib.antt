@@ -20,7 +20,6 @@ pub mod Filters
 pub mod Kept
 pub mod Agree
 pub mod Lastly
-pub mod Same
 pub mod Slices
 pub mod Seeking
 pub mod Computing
