@@ -32,6 +32,8 @@ use Rattle.drawing.specs.Counts.{isCorner}
 use Rattle.drawing.proofs.Sized.{named, fits-renumbered, corner-words-renumbered, sizes-renumbered}
 use Rattle.layout.specs.Points.{bottomRows, topRows}
 use Rattle.layout.specs.Layout.{layout}
+use Rattle.layout.proofs.Step.{ins, outs}
+use Rattle.layout.proofs.Drawings.{Complete, complete}
 use Rattle.layout.proofs.ExtraRows.{bottomRows-le, topRows-le}
 use Rattle.layout.proofs.Drawn as laid
 use Rattle.hookup.specs.Drawing.{drawingBy, drawing}
@@ -55,6 +57,10 @@ module _ (st : Station) where
 
     most : graphOf st .parts ≤ mostParts
     most = omega (arith, graph-parts st, H .wired .most)
+
+    -- the counts of every rank are those of a drawing of figures 2 and 3 (2026-03)
+    pub every-drawing : (k : ℕ) → k < graphOf st .parts → Complete k (ins (graphOf st) k) (outs (graphOf st) k)
+    every-drawing k h = complete (graphOf st) R k two h
 
     O : StOrdering st (order st)
     O = order-ordering st H

@@ -3,32 +3,13 @@ use Prim.Native.Nat.{ℕ, zero, suc, _+_, _-_, _*_, _/_, _<_, _≤_}
 use native.Mathlib.Omega.{arith}
 use native.Mathlib.Decide.{decLt, ℕ-discrete}
 use mathlib.Core.Path.{_≡_, ap}
-use mathlib.Core.Bool.{Bool, true, false, cond}
-use lib.ListN.{length, List·getD-eq-default}
-use lib.Dec.{eqb}
-use Rattle.lists.proofs.Tests.{oneIf-le}
-use Rattle.order.specs.Graph.{StGraph, size, lower, upper, linesAt}
-use Rattle.layout.specs.Columns.{newLeft, newRight, newLast, columnAt, columns}
-use Rattle.layout.proofs.NewColumns.{moved-le}
-use Rattle.layout.proofs.Step.{cable, part, width, outs, ins, outPlace, inAt, takenColumn, lefts, rights, cable-start, width-start, cable-opened, cable-kept, length-cables, length-parts, part-kept, part-opened, width-suc, outPlace-below, takenColumn-none, takenColumn-comes, length-outgoing}
-
-column-le : (p last j b : ℕ) → p + j ≤ b → last ≤ b → columnAt p last j ≤ b
-unfolding columnAt
-column-le p last j b h g = go (eqb j 3)
-  where
-    go : (u : Bool) → cond u last (p + j) ≤ b
-    go true = g
-    go false = h
+use lib.ListN.{List·getD-eq-default}
+use Rattle.order.specs.Graph.{StGraph, size, lower, Ranked}
+use Rattle.layout.specs.Columns.{columns}
+use Rattle.layout.proofs.Moved.{moved-le}
+use Rattle.layout.proofs.Step.{cable, part, width, ins, inAt, takenColumn, lefts, rights, cable-start, width-start, cable-opened, cable-kept, length-cables, length-parts, part-kept, part-opened, width-suc, outPlace-below, takenColumn-none, degree, ports, takenColumn-comes}
 
 module _ (G : StGraph) where
-  pub lefts-le : (k : ℕ) → lefts G k ≤ 1
-  unfolding lefts
-  lefts-le k = oneIf-le (newLeft (ins G k) (outs G k))
-
-  pub rights-le : (k : ℕ) → rights G k ≤ 1
-  unfolding rights
-  rights-le k = oneIf-le (newRight (ins G k) (outs G k))
-
   beyond : (k i : ℕ) → size G ≤ i → cable G k i ≡ 0
   unfolding cable
   beyond k i h = List·getD-eq-default (columns G k .cables) 0 (omega (arith, length-cables G k))
@@ -42,13 +23,6 @@ module _ (G : StGraph) where
     pub parts : (j : ℕ) → part G k j ≤ 4 * k
     pub count : width G k ≤ 4 * k + 1
 
-  pub takenColumn-le : (k : ℕ) → Small k → takenColumn G k ≤ 4 * k
-  takenColumn-le k s = go (decLt 0 (ins G k))
-    where
-      go : Dec (0 < ins G k) → takenColumn G k ≤ 4 * k
-      go (yes h) = omega (arith, takenColumn-comes G k h, s .cables (inAt G k ((ins G k - 1) / 2)))
-      go (no h) = omega (arith, takenColumn-none G k (omega arith))
-
   start : Small 0
   unfolding part columns
   start = record { cables = λ i. cables-start i (decLt i (size G)); parts = λ j. omega arith; count = omega (arith, width-start G) }
@@ -57,26 +31,32 @@ module _ (G : StGraph) where
       cables-start i (yes h) = omega (arith, cable-start G i h)
       cables-start i (no h) = omega (arith, beyond 0 i (omega arith))
 
-  module _ (four : (k : ℕ) → length (linesAt (size G) (lower G) k) + length (linesAt (size G) (upper G) k) ≤ 4) where
-    outs-le : (k : ℕ) → outs G k ≤ 4
-    unfolding outs
-    outs-le k = omega (arith, length-outgoing G k, four k)
+  module _ (R : Ranked G) where
+    pub takenColumn-le : (k : ℕ) → Small k → takenColumn G k ≤ 4 * k
+    takenColumn-le k s = go (decLt 0 (ins G k))
+      where
+        go : Dec (0 < ins G k) → takenColumn G k ≤ 4 * k
+        go (yes h) = omega (arith, takenColumn-comes G R k h, s .cables (inAt G k ((ins G k - 1) / 2)))
+        go (no h) = omega (arith, takenColumn-none G k (omega arith))
+
+    pub lefts-le : (k : ℕ) → lefts G k ≤ 1
+    lefts-le k = ports G R k .one-left
+
+    pub rights-le : (k : ℕ) → rights G k ≤ 2
+    rights-le k = ports G R k .two-right
 
     next : (k : ℕ) → Small k → Small (suc k)
     next k s = record {
       cables = λ i. cables-next i (decLt i (size G)) (ℕ-discrete (lower G i) k);
       parts = λ j. parts-next j (decLt j k) (ℕ-discrete j k);
-      count = omega (arith, width-suc G k, lefts-le k, rights-le k, oneIf-le (newLast (outs G k)), s .count);
+      count = omega (arith, width-suc G k, lefts-le k, rights-le k, s .count);
     }
       where
         cables-next : (i : ℕ) → Dec (i < size G) → Dec (lower G i ≡ k) → cable G (suc k) i ≤ 4 * suc k
         cables-next i (no h) d = omega (arith, beyond (suc k) i (omega arith))
         cables-next i (yes h) (no d) =
             omega (arith, cable-kept G k i h d, moved-le (takenColumn G k) (lefts G k) (rights G k) (cable G k i), lefts-le k, rights-le k, s .cables i)
-        cables-next i (yes h) (yes d) =
-            let c = column-le (takenColumn G k) (width G k + lefts G k + rights G k) (outPlace G k i) (4 * suc k)
-            (omega (arith, takenColumn-le k s, outPlace-below G k i h d, outs-le k)) (omega (arith, lefts-le k, rights-le k, s .count)) in
-            omega (arith, cable-opened G k i h d, c)
+        cables-next i (yes h) (yes d) = omega (arith, cable-opened G R k i h d, takenColumn-le k s, outPlace-below G k i h d, degree G R k)
 
         parts-next : (j : ℕ) → Dec (j < k) → Dec (j ≡ k) → part G (suc k) j ≤ 4 * suc k
         parts-next j (yes h) d =

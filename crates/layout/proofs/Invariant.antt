@@ -5,13 +5,12 @@ use native.Mathlib.Omega.{arith}
 use native.Mathlib.Decide.{decLt, ℕ-discrete}
 use mathlib.Core.Path.{_≡_, sym, ap, _∙_}
 use mathlib.Core.Logic.{_⊎_, inl, inr}
-use borrow.Author.Tests.{eq-eqb, ne-eqb}
 use Rattle.order.specs.Graph.{StGraph, size, lower, upper, Ranked}
-use Rattle.layout.specs.Columns.{moved, columnAt}
+use Rattle.layout.specs.Columns.{moved}
 use Rattle.lists.proofs.Increasing.{Increasing, increasing-one, increasing-less}
 use Rattle.layout.proofs.Moved.{moved-increasing, moved-outside, moved-from-left, moved-from-right}
-use Rattle.layout.proofs.Ports.{Ports, ports, in-left, in-right}
-use Rattle.layout.proofs.Step.{cable-opened, cable-kept, part-kept, part-opened, width-start, length-outgoing, outPlace-below, outPlace-one, inPlace-below, inPlace-one, inAt-inPlace, inAt-comes, inAt-one, inAt-rises, takenColumn-none, takenColumn-comes}
+use Rattle.layout.proofs.Ports.{Ports, in-left, in-right}
+use Rattle.layout.proofs.Step.{cable-opened, cable-kept, part-kept, part-opened, outPlace-below, outPlace-one, inPlace-below, inPlace-one, inAt-inPlace, inAt-comes, inAt-one, inAt-rises, degree, takenColumn-comes}
 use Rattle.layout.proofs.Step as step
 
 module _ (G : StGraph) where
@@ -121,12 +120,10 @@ module _ (G : StGraph) where
 
   module _ (R : Ranked G) (k : ℕ) (inside : k < G .parts) where
     pub outs-ins : outs k + ins k ≤ 4
-    unfolding step.outs step.ins
-    outs-ins = omega (arith, length-outgoing G k, R .four k)
+    outs-ins = omega (arith, degree G R k)
 
     pub table : Ports (ins k) (outs k) (lefts k) (rights k)
-    unfolding step.lefts step.rights
-    table = ports (ins k) (outs k) outs-ins
+    table = step.ports G R k
 
     entered : 0 < k → 0 < ins k
     entered h =
@@ -141,39 +138,19 @@ module _ (G : StGraph) where
         go (yes l) = absurd (omega (arith, entered l, outPlace-below G k i h e, outs-ins))
         go (no l) = omega (arith, outPlace-below G k i h e, outs-ins)
 
-    leaves-of : (i : ℕ) → i < size G → lower G i ≡ k → (outPlace k i ≡ 3 → ⊥) → Leaves i k
-    leaves-of i h e d = (e, omega (arith, outPlace-below G k i h e, outs-ins))
+    -- Outgoing cables, in the block of columns from the one taken
 
-    -- Outgoing cables: the first three in the block of columns from the one taken, the fourth right of it
+    opens-at : (i : ℕ) → i < size G → lower G i ≡ k → cable (suc k) i ≡ takenColumn k + outPlace k i
+    opens-at = cable-opened G R k
 
-    leaves-at : (i : ℕ) → i < size G → Leaves i k → cable (suc k) i ≡ takenColumn k + outPlace k i
-    unfolding columnAt
-    leaves-at i h l = cable-opened G k i h (l .0) ∙ rw (ne-eqb (outPlace k i) 3 (omega arith))
-
-    leaves-in : (i : ℕ) → i < size G → Leaves i k → cable (suc k) i ≤ takenColumn k + lefts k + rights k
-    leaves-in i h l =
-        omega (arith, leaves-at i h l, table .wide (outPlace k i) (outPlace-below G k i h (l .0)) (l .1))
-
-    bottom-at : (i : ℕ) → i < size G → lower G i ≡ k → outPlace k i ≡ 3 → cable (suc k) i ≡ width k + lefts k + rights k
-    unfolding columnAt
-    bottom-at i h e q = cable-opened G k i h e ∙ rw (eq-eqb (outPlace k i) 3 q)
-
-    bottom-out : (i : ℕ) → i < size G → lower G i ≡ k → outPlace k i ≡ 3 → takenColumn k + lefts k + rights k < cable (suc k) i
-    bottom-out i h e q =
-        let z = fourth i h e q in
-        let w : width k ≡ 1 = ap width (z .0) ∙ width-start G in
-        omega (arith, bottom-at i h e q, takenColumn-none G k (z .1))
+    opens-in : (i : ℕ) → i < size G → lower G i ≡ k → cable (suc k) i ≤ takenColumn k + lefts k + rights k
+    opens-in i h e =
+        let b : outPlace k i < outs k = outPlace-below G k i h e in
+        omega (arith, opens-at i h e, table .all (omega arith))
 
     -- of two outgoing cables
     outs-apart : (i j : ℕ) → i < size G → j < size G → lower G i ≡ k → lower G j ≡ k → cable (suc k) i ≡ cable (suc k) j → i ≡ j
-    outs-apart i j h g e f q =
-        outPlace-one G k i j h g e f (go (ℕ-discrete (outPlace k i) 3) (ℕ-discrete (outPlace k j) 3))
-      where
-        go : Dec (outPlace k i ≡ 3) → Dec (outPlace k j ≡ 3) → outPlace k i ≡ outPlace k j
-        go (yes a) (yes b) = a ∙ sym b
-        go (yes a) (no b) = absurd (omega (arith, bottom-out i h e a, leaves-in j g (leaves-of j g f b)))
-        go (no a) (yes b) = absurd (omega (arith, bottom-out j g f b, leaves-in i h (leaves-of i h e a)))
-        go (no a) (no b) = omega (arith, leaves-at i h (leaves-of i h e a), leaves-at j g (leaves-of j g f b))
+    outs-apart i j h g e f q = outPlace-one G k i j h g e f (omega (arith, opens-at i h e, opens-at j g f))
 
     -- Incoming cables, and those that pass
 
@@ -197,7 +174,7 @@ module _ (G : StGraph) where
               arith,
               inAt-rises G k (middle k) (inPlace k i) (omega arith) (inPlace-below G k i h (e .0)) (e .1),
               ap (cable k) (inAt-inPlace G k i h (e .0)),
-              takenColumn-comes G k (some i h (e .0)),
+              takenColumn-comes G R k (some i h (e .0)),
             ))
 
     enters-right : (i : ℕ) → i < size G → Enters i k → takenColumn k < cable k i → middle k < inPlace k i
@@ -211,7 +188,7 @@ module _ (G : StGraph) where
               arith,
               inAt-rises G k (inPlace k i) (middle k) (omega arith) (omega (arith, some i h (e .0))) (omega (arith, outs-ins)),
               ap (cable k) (inAt-inPlace G k i h (e .0)),
-              takenColumn-comes G k (some i h (e .0)),
+              takenColumn-comes G R k (some i h (e .0)),
             ))
 
     -- A side of the part has one outgoing cable, at place s, where at most b come in, or one incoming, at place t, where more do
@@ -227,7 +204,7 @@ module _ (G : StGraph) where
 
     left-side : (i : ℕ) → i < size G → Meets i k → cable (suc k) i < part (suc k) k → Side 0 0 2 i
     left-side i h (inl l) s =
-        let b : outPlace k i < lefts k = omega (arith, leaves-at i h l, part-opened G k) in
+        let b : outPlace k i < lefts k = omega (arith, opens-at i h (l .0), part-opened G k) in
         inl (l .0, omega (arith, table .one-left), table .new-left (omega arith))
     left-side i h (inr e) s =
         let b : cable k i < takenColumn k =
@@ -237,7 +214,7 @@ module _ (G : StGraph) where
 
     right-side : (i : ℕ) → i < size G → Meets i k → part (suc k) k < cable (suc k) i → Side (lefts k + 1) (middle k + 1) 1 i
     right-side i h (inl l) s =
-        let b : lefts k < outPlace k i = omega (arith, leaves-at i h l, part-opened G k) in
+        let b : lefts k < outPlace k i = omega (arith, opens-at i h (l .0), part-opened G k) in
         let q = table .new-right (outPlace k i) (outPlace-below G k i h (l .0)) (l .1) b in
         inl (l .0, q .1, q .0)
     right-side i h (inr e) s =
@@ -251,7 +228,7 @@ module _ (G : StGraph) where
       aside : (i : ℕ) → i < size G → lower G i < k → k ≤ upper G i → (upper G i ≡ k → inPlace k i ≡ middle k → ⊥) → cable k i ≡ takenColumn k → ⊥
       aside i h l u d e =
           I .apart i (inAt k (middle k)) h (there .0) other l (omega (arith, R .rises _ (there .0), there .1)) (omega (arith, there .1))
-          (omega (arith, R .rises _ (there .0), there .1)) (e ∙ takenColumn-comes G k (entered (omega arith)))
+          (omega (arith, R .rises _ (there .0), there .1)) (e ∙ takenColumn-comes G R k (entered (omega arith)))
         where
           there : (inAt k (middle k) < size G) × (upper G (inAt k (middle k)) ≡ k)
           there = inAt-comes G k (middle k) (omega (arith, entered (omega arith)))
@@ -270,32 +247,32 @@ module _ (G : StGraph) where
           moved-outside (takenColumn k) (lefts k) (rights k) (cable k i) (aside i h l u d)
           (omega (arith, old i h l)) (omega (arith, old i h l))
 
-      passes-out : (i : ℕ) → i < size G → Passes i k
-          → takenColumn k ≤ cable (suc k) i → cable (suc k) i ≤ takenColumn k + lefts k + rights k → ⊥
-      passes-out i h (by l u) = aside-out i h l (omega arith) (λ e q. omega arith)
-      passes-out i h (bottom e q) = λ s t. omega (arith, bottom-out i h e q)
-      passes-out i h (top e q) = aside-out i h (entering i h e) (omega arith) (λ f r. omega (arith, outs-ins))
+      -- and a cable that passes is not between the column taken and another one of the block, which is not the bottom connection's
+      passes-out : (i u : ℕ) → i < size G → Passes i k → u ≤ takenColumn k + lefts k + rights k → u < takenColumn k + 3
+          → takenColumn k ≤ cable (suc k) i → cable (suc k) i ≤ u → ⊥
+      passes-out i u h (by l r) a b s t = aside-out i h l (omega arith) (λ e q. omega arith) s (omega arith)
+      passes-out i u h (bottom e q) a b s t = omega (arith, opens-at i h e)
+      passes-out i u h (top e q) a b s t = aside-out i h (entering i h e) (omega arith) (λ f r. omega (arith, outs-ins)) s (omega arith)
+
+      -- up to the part, or to an outgoing cable
+      passes-part : (i : ℕ) → i < size G → Passes i k → takenColumn k ≤ cable (suc k) i → cable (suc k) i ≤ part (suc k) k → ⊥
+      passes-part i h p = passes-out i (part (suc k) k) h p (omega (arith, part-opened G k)) (omega (arith, part-opened G k, table .one-left))
+
+      passes-leaves : (i j : ℕ) → i < size G → j < size G → Leaves i k → Passes j k → takenColumn k ≤ cable (suc k) j → cable (suc k) j ≤ cable (suc k) i → ⊥
+      passes-leaves i j h g l p = passes-out j (cable (suc k) i) g p (opens-in i h (l .0)) (omega (arith, opens-at i h (l .0)))
 
       stands-new : RankFacts (cable (suc k)) (part (suc k) k) k
       stands-new = record {
-        passes = λ i h p q. passes-out i h p (omega (arith, part-opened G k)) (omega (arith, part-opened G k));
+        passes = λ i h p q. passes-part i h p (omega (arith, part-opened G k)) (omega arith);
         left = λ i j h g d a b s t. d (one-side 0 0 2 i j h g (left-side i h a s) (left-side j g b t));
         right = λ i j h g d a b s t. d (one-side (lefts k + 1) (middle k + 1) 1 i j h g (right-side i h a s) (right-side j g b t));
-        free-left = λ i j h g a b s t.
-            passes-out j g b (omega (arith, leaves-at i h a)) (omega (arith, part-opened G k));
-        free-right = λ i j h g a b s t.
-            passes-out j g b (omega (arith, part-opened G k)) (omega (arith, leaves-in i h a));
+        free-left = λ i j h g a b s t. passes-part j g b (omega (arith, opens-at i h (a .0))) (omega arith);
+        free-right = λ i j h g a b s t. passes-leaves i j h g a b (omega (arith, part-opened G k)) (omega arith);
       }
 
       -- an outgoing cable and one that passes
       opens-apart : (i j : ℕ) → i < size G → j < size G → lower G i ≡ k → lower G j < k → k < upper G j → cable (suc k) i ≡ cable (suc k) j → ⊥
-      opens-apart i j h g e l u q = go (ℕ-discrete (outPlace k i) 3)
-        where
-          go : Dec (outPlace k i ≡ 3) → ⊥
-          go (yes a) = omega (arith, fourth i h e a)
-          go (no a) =
-              let b = leaves-of i h e a in
-              passes-out j g (by l u) (omega (arith, leaves-at i h b)) (omega (arith, leaves-in i h b))
+      opens-apart i j h g e l u q = aside-out j g l (omega arith) (λ f r. omega arith) (omega (arith, opens-at i h e)) (omega (arith, opens-in i h e))
 
       apart-next : Apart (suc k)
       apart-next i j h g d a b u v q = go (ℕ-discrete (lower G i) k) (ℕ-discrete (lower G j) k)

@@ -1,14 +1,15 @@
 -- Laws of the layout: what its construction establishes (Facts, by Placed), its sizes (Sizes, LineLengths), what follows of meetings (Meet) and crossings (Cross),
 -- and what the code rests on (Connections to Lanes).
 pub mod Facts
+pub mod Ports
 pub mod Step
 pub mod Moved
-pub mod Ports
 pub mod Invariant
 pub mod Placed
-pub mod NewColumns
 pub mod Width
+pub mod Drawings
 pub mod Own
+pub mod PortsMet
 pub mod Turns
 pub mod ExtraRows
 pub mod Sizes
@@ -27,5 +28,6 @@ pub mod Insertion
 pub mod Collecting
 pub mod Bounds
 pub mod Lengths
+pub mod Opening
 pub mod Standing
 pub mod Lanes

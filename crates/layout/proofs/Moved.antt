@@ -66,3 +66,12 @@ module _ (p a b : ℕ) where
       go (yes s) d = moved-left x s
       go (no s) (yes t) = omega (arith, moved-at x t)
       go (no s) (no t) = omega (arith, moved-right x (omega arith))
+
+  -- how far a column that was there moves
+  pub moved-le : (x : ℕ) → moved p a b x ≤ x + a + b
+  moved-le x = go (decLt x p) (decLt p x)
+    where
+      go : Dec (x < p) → Dec (p < x) → moved p a b x ≤ x + a + b
+      go (yes l) d = omega (arith, moved-left x l)
+      go (no l) (yes g) = omega (arith, moved-right x g)
+      go (no l) (no g) = omega (arith, moved-at x (omega arith))

@@ -12,11 +12,11 @@ use Rattle.lists.specs.Select.{range, count}
 use Rattle.lists.proofs.Sums.{OneAt, count-each}
 use Rattle.order.specs.Graph.{StGraph, size, lower, upper, Ranked}
 use Rattle.layout.specs.Columns.{moved}
-use Rattle.layout.proofs.Step.{cable, part, outs, ins, outPlace, inAt, takenColumn, lefts, rights, cable-kept, part-kept, part-opened, outPlace-one, inAt-comes, takenColumn-comes}
-use Rattle.lists.proofs.Increasing.{increasing-one}
+use Rattle.layout.proofs.Step.{cable, part, outs, ins, outPlace, inAt, takenColumn, lefts, rights, cable-kept, part-kept, part-opened, cable-opened, outPlace-one, inAt-comes, takenColumn-comes}
+use Rattle.lists.proofs.Increasing.{Increasing, increasing-one}
 use Rattle.layout.proofs.Moved.{moved-increasing, moved-at}
 use Rattle.layout.proofs.Invariant.{invariant}
-use Rattle.layout.proofs.Width.{outAt, outAt-goes, outPlace-outAt, ports-at, comes-in, goes-out, table, opened-last, opened-near, takenColumn-below}
+use Rattle.layout.proofs.Width.{outAt, outAt-goes, outPlace-outAt, comes-in, goes-out, table}
 
 module _ (G : StGraph) (H : Ranked G) where
   -- a cable's column once k ranks stand; the column that rank k takes, and its new columns left and right
@@ -33,7 +33,7 @@ module _ (G : StGraph) (H : Ranked G) where
   B k = rights G k
 
   -- the incoming cable whose column rank k takes
-  pub takenCable : ℕ → ℕ
+  unfoldable pub takenCable : ℕ → ℕ
   takenCable k = inAt G k ((ins G k - 1) / 2)
 
   taken-comes : (k : ℕ) → 0 < k → k < G .parts → (takenCable k < size G) × (upper G (takenCable k) ≡ k) × (takenColumn G k ≡ cable G k (takenCable k))
@@ -41,7 +41,7 @@ module _ (G : StGraph) (H : Ranked G) where
   taken-comes k h l =
       let p : 0 < ins G k = comes-in G H k h l in
       let c = inAt-comes G k ((ins G k - 1) / 2) (omega arith) in
-      (c .0, c .1, takenColumn-comes G k p)
+      (c .0, c .1, takenColumn-comes G H k p)
 
   -- what moved to one column was in one column
   one-column : (k x y : ℕ) → moved (P k) (A k) (B k) x ≡ moved (P k) (A k) (B k) y → x ≡ y
@@ -50,14 +50,7 @@ module _ (G : StGraph) (H : Ranked G) where
   -- In its part's column when the part is placed
 
   pub lower-own : (k i : ℕ) → i < size G → lower G i ≡ k → (X (suc k) i ≡ part G (suc k) k) ↔ (outPlace G k i ≡ lefts G k)
-  lower-own k i h e = (go (ℕ-discrete (outPlace G k i) 3), back)
-    where
-      go : Dec (outPlace G k i ≡ 3) → X (suc k) i ≡ part G (suc k) k → outPlace G k i ≡ A k
-      go (yes c) q = absurd (omega (arith, opened-last G H k i h e c, part-opened G k, takenColumn-below G H k))
-      go (no c) q = omega (arith, opened-near G H k i h e c, part-opened G k)
-
-      back : outPlace G k i ≡ A k → X (suc k) i ≡ part G (suc k) k
-      back q = omega (arith, opened-near G H k i h e (λ c. omega (arith, ports-at G H k .one-left)), part-opened G k)
+  lower-own k i h e = (λ q. omega (arith, cable-opened G H k i h e, part-opened G k), λ q. omega (arith, cable-opened G H k i h e, part-opened G k))
 
   pub upper-own : (k i : ℕ) → i < size G → upper G i ≡ k → (X (suc k) i ≡ part G (suc k) k) ↔ (i ≡ takenCable k)
   upper-own k i h e = (go (ℕ-discrete i (takenCable k)), back)
@@ -87,37 +80,49 @@ module _ (G : StGraph) (H : Ranked G) where
       back : i ≡ takenCable k → X (suc k) i ≡ part G (suc k) k
       back s = kept ∙ ap (λ (j : ℕ). moved (P k) (A k) (B k) (X k j)) s ∙ ap (moved (P k) (A k) (B k)) (sym (t .2)) ∙ sym stands
 
+  -- From k ranks to l one strictly increasing map moves the parts that stand and the cables that are opened.
+  pub record Carried (k l : ℕ) : Type 0 where
+    pub map : ℕ → ℕ
+    pub rises : Increasing map
+    pub cables : (i : ℕ) → i < size G → lower G i < k → cable G l i ≡ map (cable G k i)
+    pub parts : (j : ℕ) → j < k → part G l j ≡ map (part G k j)
+
+  carried : (k d : ℕ) → Carried k (d + k)
+  carried k zero = record { map = λ x. x; rises = λ x y h. h; cables = λ i h o. ap (λ (l : ℕ). X l i) (omega arith); parts = λ j h. ap (λ (l : ℕ). part G l j) (omega arith) }
+  carried k (suc d) =
+      let c = carried k d in
+      let l = d + k in
+      let e : suc d + k ≡ suc l = omega arith in
+      record {
+        map = λ x. moved (P l) (A l) (B l) (c .map x);
+        rises = λ x y h. moved-increasing (P l) (A l) (B l) _ _ (c .rises x y h);
+        cables = λ i h o. ap (λ (n : ℕ). X n i) e ∙ cable-kept G l i h (λ q. omega arith) ∙ ap (moved (P l) (A l) (B l)) (c .cables i h o);
+        parts = λ j h. ap (λ (n : ℕ). part G n j) e ∙ part-kept G l j (omega arith) ∙ ap (moved (P l) (A l) (B l)) (c .parts j h);
+      }
+
+  -- until all ranks stand
+  pub finished : (k : ℕ) → k ≤ G .parts → Carried k (G .parts)
+  finished k h = let e : G .parts - k + k ≡ G .parts = omega arith in subst (λ (l : ℕ). Carried k l) e (carried k (G .parts - k))
+
   -- What is in one column stays in one column, and what is not stays apart.
-  pub own-kept :
-      (k l i j : ℕ) → i < size G → lower G i < k → j < k → k ≤ l
-      → (cable G k i ≡ part G k j) ↔ (cable G l i ≡ part G l j)
-  own-kept k zero i j h o g u = absurd (omega arith)
-  own-kept k (suc l) i j h o g u = go (ℕ-discrete k (suc l)) (λ v. own-kept k l i j h o g v)
-    where
-      kept : lower G i < l → X (suc l) i ≡ moved (P l) (A l) (B l) (X l i)
-      kept v = cable-kept G l i h (λ q. omega arith)
-
-      go :
-          Dec (k ≡ suc l) → (k ≤ l → (X k i ≡ part G k j) ↔ (X l i ≡ part G l j))
-          → (X k i ≡ part G k j) ↔ (X (suc l) i ≡ part G (suc l) j)
-      go (yes e) below = (λ q. subst (λ (z : ℕ). X z i ≡ part G z j) e q, λ q. subst (λ (z : ℕ). X z i ≡ part G z j) (sym e) q)
-      go (no e) below =
-          let b = below (omega arith) in
-          let c = kept (omega arith) in
-          let d = part-kept G l j (omega arith) in
-          (λ q. c ∙ ap (moved (P l) (A l) (B l)) (b .0 q) ∙ sym d, λ q. b .1 (one-column l (X l i) (part G l j) (sym c ∙ q ∙ d)))
-
-  -- Once all ranks stand
+  own-kept :
+      (k i j : ℕ) → i < size G → lower G i < k → j < k → k ≤ G .parts
+      → (cable G k i ≡ part G k j) ↔ (cable G (G .parts) i ≡ part G (G .parts) j)
+  own-kept k i j h o g u =
+      let c = finished k u in (
+        λ q. c .cables i h o ∙ ap (c .map) q ∙ sym (c .parts j g),
+        λ q. increasing-one (c .map) (c .rises) _ _ (sym (c .cables i h o) ∙ q ∙ c .parts j g),
+      )
 
   pub lower-own-all : (i : ℕ) → i < size G → (X (G .parts) i ≡ part G (G .parts) (lower G i)) ↔ (outPlace G (lower G i) i ≡ lefts G (lower G i))
   lower-own-all i h =
-      let f = own-kept (suc (lower G i)) (G .parts) i (lower G i) h (omega arith) (omega arith) (omega (arith, H .rises i h, H .inside i h)) in
+      let f = own-kept (suc (lower G i)) i (lower G i) h (omega arith) (omega arith) (omega (arith, H .rises i h, H .inside i h)) in
       let g = lower-own (lower G i) i h refl in
       (λ q. g .0 (f .1 q), λ q. f .0 (g .1 q))
 
   pub upper-own-all : (i : ℕ) → i < size G → (X (G .parts) i ≡ part G (G .parts) (upper G i)) ↔ (i ≡ takenCable (upper G i))
   upper-own-all i h =
-      let f = own-kept (suc (upper G i)) (G .parts) i (upper G i) h (omega (arith, H .rises i h)) (omega arith) (omega (arith, H .inside i h)) in
+      let f = own-kept (suc (upper G i)) i (upper G i) h (omega (arith, H .rises i h)) (omega arith) (omega (arith, H .inside i h)) in
       let g = upper-own (upper G i) i h refl in
       (λ q. g .0 (f .1 q), λ q. f .0 (g .1 q))
 

@@ -35,32 +35,32 @@ pick a b u v = go (ℕ-discrete a b)
 
 module _ (G : StGraph) where
   -- the rows, the places of cables among the outgoing and the incoming ones of a rank, and the lanes
-  abbrev row : ℕ → ℕ
+  abbrev pub row : ℕ → ℕ
   row = points.row G
 
-  abbrev outPlace : ℕ → ℕ → ℕ
+  abbrev pub outPlace : ℕ → ℕ → ℕ
   outPlace = step.outPlace G
 
-  abbrev inPlace : ℕ → ℕ → ℕ
+  abbrev pub inPlace : ℕ → ℕ → ℕ
   inPlace = step.inPlace G
 
-  abbrev low : ℕ → ℕ
+  abbrev pub low : ℕ → ℕ
   low i = courseOf G i .low
 
-  abbrev high : ℕ → ℕ
+  abbrev pub high : ℕ → ℕ
   high i = courseOf G i .high
 
   -- the lower lane: below row 0 for the bottom connection, else the part's row
-  data Low (i : ℕ) : Type 0 where
+  pub data Low (i : ℕ) : Type 0 where
     dips : lower G i ≡ 0 → outPlace (lower G i) i ≡ 3 → low i < row 0 → Low i
     leaves : outPlace (lower G i) i < 3 → low i ≡ row (lower G i) → Low i
 
   -- the upper lane: above row n - 1 for the top connection, else the part's row
-  data High (i : ℕ) : Type 0 where
+  pub data High (i : ℕ) : Type 0 where
     climbs : suc (upper G i) ≡ G .parts → inPlace (upper G i) i ≡ 3 → high i ≡ row (G .parts) → High i
     enters : inPlace (upper G i) i < 3 → high i ≡ row (upper G i) → High i
 
-  row-less : (j k : ℕ) → j < k → row j < row k
+  pub row-less : (j k : ℕ) → j < k → row j < row k
   unfolding points.row
   row-less j k h = omega arith
 
@@ -84,7 +84,7 @@ module _ (G : StGraph) where
             absurd (d (place-bottom G R i h e (sym (ap (λ (r : ℕ). outPlace r i) e) ∙ q)))
         go (no q) = omega (arith, outPlace-below G (lower G i) i h refl, outs-ins G R (lower G i) (lower-inside G R i h))
 
-    low-of : (i : ℕ) → i < size G → Low i
+    pub low-of : (i : ℕ) → i < size G → Low i
     unfolding courseOf course step.outPlace points.row
     low-of i h = go (pick i (bottomLine G) 0 (row (lower G i)))
       where
@@ -142,7 +142,7 @@ module _ (G : StGraph) where
             let c = R .continued (upper G i) (omega (arith, R .inside i h)) in
             omega (arith, inPlace-below G (upper G i) i h refl, four, outPlace-below G (upper G i) (c .0) (c .1) (c .2))
 
-    high-of : (i : ℕ) → i < size G → High i
+    pub high-of : (i : ℕ) → i < size G → High i
     unfolding courseOf course
     high-of i h = go (pick i (topLine G (columns G (G .parts) .cables)) (row (G .parts)) (row (upper G i)))
       where

@@ -2,47 +2,47 @@
 use Prim.Native.Nat.{ℕ, _+_, _<_, _≤_}
 use native.Mathlib.Omega.{arith}
 use native.Mathlib.Numerals.{add-one}
-use mathlib.Core.Path.{_≡_, refl, sym, ap, ap₂, _∙_}
-use mathlib.Core.Bool.{cond}
+use mathlib.Core.Path.{_≡_, refl, sym, ap, _∙_}
 use mathlib.Core.List.{List, [], _∷_, _++_, map}
-use lib.ListN.{length, getD, take, replicate}
+use lib.ListN.{length, getD, take, replicate, length-map}
 use lib.Seq.{getD-take}
-use lib.Dec.{eqb}
 use Rattle.words.specs.Limits.{mostCables}
-use Rattle.lists.specs.Select.{tabulate, indexOf, oneIf}
-use Rattle.lists.proofs.Agree.{tabulate-same}
+use Rattle.lists.specs.Stores.{setEach}
 use Rattle.lists.proofs.Kept.{take-replicate}
 use Rattle.order.specs.Graph.{StGraph, size, lower, upper, linesAt, Ranked}
 use Rattle.order.specs.Arrays.{graphIn}
 use Rattle.order.specs.declared.Graph.{Graph}
 use Rattle.layout.specs.declared.Columns as code-columns
 use Rattle.layout.specs.declared.incident.Incident.{Incident}
-use Rattle.layout.specs.declared.placing.Placement.{Placement}
-use Rattle.layout.specs.Columns.{newLast, moved, columnAt, outgoing, incoming, taken, step, columns}
+use Rattle.layout.specs.declared.figures.Placement.{Placement}
+use Rattle.layout.specs.Ports.{Port, inPorts, outPorts, portColumn}
+use Rattle.layout.specs.Columns.{moved, outgoing, incoming, taken, step, columns}
 use Rattle.layout.specs.Arrays.{GraphFits}
-use Rattle.layout.specs.Incidents.{at, Holds}
-use Rattle.layout.specs.Placements.{ColumnsOf, PlacementOf, PlacedAt, PlacementFits, movedBy, cableBy}
+use Rattle.layout.specs.Incidents.{at, held, linesIn, keysIn, firstKeys, Holds}
+use Rattle.layout.specs.Placements.{ColumnsOf, Depicted, PlacementIs, Stands, PlacementFits, Opens, movedBy, portColumns}
 use Rattle.layout.proofs.Insertion.{lines-held, keys-held}
-use Rattle.layout.proofs.Step.{cable, part, width, takenColumn, outs, ins, lefts, rights, length-outgoing, length-incoming}
+use Rattle.layout.proofs.Ports.{all-out}
+use Rattle.layout.proofs.Step.{cable, part, width, takenColumn, outs, ins, lefts, rights, length-outgoing, length-incoming, length-cables, degree}
 use Rattle.layout.proofs.Bounds.{Small, small, takenColumn-le, lefts-le, rights-le}
+use Rattle.layout.proofs.Drawings.{complete}
+use Rattle.layout.proofs.Opening.{row-length, line-below, opened-cables}
 
--- The columns once a rank stands that opens the lines l, by equals
+-- The drawing with the count of incoming cables
+pub chosen :
+    (f : Incident) (outs : ℕ) {n : ℕ} {p : Placement} → f .count ≡ n → Stands (firstKeys n f) (inPorts n) (outPorts n outs) p
+    → Stands (keysIn f) (inPorts (f .count)) (outPorts (f .count) outs) p
+unfolding held
+chosen f outs e s = rw e s
 
-module _ (lowers : List ℕ) (k : ℕ) where
-  opening : List ℕ → ℕ → ℕ → ℕ → ℕ → List ℕ → List ℕ
-  opening l p a b t xs = tabulate (length lowers) (λ i. cond (eqb (at lowers i) k) (columnAt p t (indexOf i l)) (moved p a b (getD xs i 0)))
+-- The columns once a rank stands, by equals
 
-  opening-same :
-      {l l′ : List ℕ} {p p′ a a′ b b′ t t′ : ℕ} {xs xs′ : List ℕ} → l ≡ l′ → p ≡ p′ → a ≡ a′ → b ≡ b′ → t ≡ t′ → xs ≡ xs′
-      → opening l p a b t xs ≡ opening l′ p′ a′ b′ t′ xs′
-  opening-same e f g h i j = cc
+opening : List ℕ → ℕ → ℕ → ℕ → List Port → List ℕ → List ℕ
+opening l p a b qs xs = setEach l (map (portColumn p a) qs) (map (moved p a b) xs)
 
-  -- only the columns of its lines matter
-  opening-lines : (l : List ℕ) (p a b t m : ℕ) (xs : List ℕ) → m ≡ length lowers → opening l p a b t xs ≡ opening l p a b t (take m xs)
-  unfolding opening
-  opening-lines l p a b t m xs e =
-      tabulate-same (length lowers) _ _
-      (λ i h. ap (λ (x : ℕ). cond (eqb (at lowers i) k) (columnAt p t (indexOf i l)) (moved p a b x)) (sym (getD-take m xs i 0 (omega arith))))
+opening-same :
+    {l l′ : List ℕ} {p p′ a a′ b b′ : ℕ} {qs qs′ : List Port} {xs xs′ : List ℕ} → l ≡ l′ → p ≡ p′ → a ≡ a′ → b ≡ b′ → qs ≡ qs′ → xs ≡ xs′
+    → opening l p a b qs xs ≡ opening l′ p′ a′ b′ qs′ xs′
+opening-same e f g h i j = cc
 
 standing-same :
     {p p′ a a′ b b′ : ℕ} {ps ps′ : List ℕ} → p ≡ p′ → a ≡ a′ → b ≡ b′ → ps ≡ ps′
@@ -73,40 +73,39 @@ module _ {G : StGraph} (R : Ranked G) where
 
 -- Where rank k stands
 
-module _ {G : StGraph} {k : ℕ} {p : Placement} (q : PlacedAt G k p) where
-  left-same : p .left ≡ lefts G k
-  unfolding lefts ins outs
-  left-same = q .left
-
-  right-same : p .right ≡ rights G k
-  unfolding rights ins outs
-  right-same = q .right
-
-  last-same : p .last ≡ width G k + lefts G k + rights G k
-  unfolding width
-  last-same = q .last ∙ rw (left-same, right-same)
+abbrev pub StandsAt : StGraph → ℕ → Placement → Type 0
+StandsAt G k p = PlacementIs (takenColumn G k) (lefts G k) (rights G k) (outPorts (ins G k) (outs G k)) p
 
 module _ {g : Graph} (v : GraphFits g) {k : ℕ} {c : code-columns.Columns} (s : ColumnsOf g k c) where
-  pub stands :
-      {ins outs : Incident} {p : Placement} → Holds (upper (graphIn g)) outs (outgoing (graphIn g) k)
-      → Holds (at (take (g .cables) (c .cables))) ins (incoming (graphIn g) (take (g .cables) (c .cables)) k) → PlacementOf ins outs (c .count) p
-      → PlacedAt (graphIn g) k p
-  unfolding taken
-  stands {ins} ho hi e =
-      let n : ins .count ≡ length (linesAt (size (graphIn g)) (upper (graphIn g)) k) = hi .count ∙ length-incoming (graphIn g) (take (g .cables) (c .cables)) k in
-      let h : Holds (at (columns (graphIn g) k .cables)) ins (incoming (graphIn g) (columns (graphIn g) k .cables) k) = rw (s .cables) at hi in
-      record {
-        opens = rw (e .opens) ho;
-        column = e .column ∙ rw (keys-held _ h, h .count);
-        left = e .left ∙ rw (n, ho .count);
-        right = e .right ∙ rw (n, ho .count);
-        last = e .last ∙ rw (s .count);
-      }
+  module _ {i o : Incident} (hi : Holds (at (take (g .cables) (c .cables))) i (incoming (graphIn g) (take (g .cables) (c .cables)) k))
+      (ho : Holds (upper (graphIn g)) o (outgoing (graphIn g) k)) where
+    ins-count : i .count ≡ ins (graphIn g) k
+    unfolding ins
+    ins-count = hi .count ∙ length-incoming (graphIn g) (take (g .cables) (c .cables)) k
+
+    outs-count : o .count ≡ outs (graphIn g) k
+    unfolding outs
+    outs-count = ho .count
+
+    pub has-drawing : k < g .parts → Depicted (i .count) (o .count)
+    has-drawing b = rw (ins-count, outs-count) (complete (graphIn g) (v .ranked) k (v .least) b .depicted)
+
+    pub stands : {p : Placement} → Stands (keysIn i) (inPorts (i .count)) (outPorts (i .count) (o .count)) p → StandsAt (graphIn g) k p
+    unfolding takenColumn taken lefts rights
+    stands e =
+        let h : Holds (at (columns (graphIn g) k .cables)) i (incoming (graphIn g) (columns (graphIn g) k .cables) k) = rw (s .cables) at hi in
+        record {
+          column = e .column ∙ rw (keys-held _ h, h .count);
+          left = e .left ∙ rw (ins-count, outs-count);
+          right = e .right ∙ rw (ins-count, outs-count);
+          ports = e .ports ∙ rw (ins-count, outs-count);
+          most = e .most;
+        }
 
   -- What the code's sums need
 
   now-small : Small (graphIn g) k
-  now-small = small (graphIn g) (v .ranked .four) k
+  now-small = small (graphIn g) (v .ranked) k
 
   module _ (b : k < g .parts) where
     pub count-small : c .count ≤ 1021
@@ -125,38 +124,41 @@ module _ {g : Graph} (v : GraphFits g) {k : ℕ} {c : code-columns.Columns} (s :
         let e : getD (c .parts) i 0 ≡ part (graphIn g) k i = sym (getD-take k (c .parts) i 0 h) ∙ ap (λ (l : List ℕ). getD l i 0) (s .parts) in
         omega (arith, now-small .parts i, v .most)
 
-    module _ {p : Placement} (q : PlacedAt (graphIn g) k p) where
-      pub room : PlacementFits p
-      unfolding takenColumn
-      room = record {
-        column = omega (arith, q .column, takenColumn-le (graphIn g) k now-small, v .most);
-        left = omega (arith, left-same q, lefts-le (graphIn g) k);
-        right = omega (arith, right-same q, rights-le (graphIn g) k);
-      }
-
-      pub last-small : p .last ≤ 1023
-      last-small = omega (arith, q .last, s .count, count-small, room)
+    pub room : {p : Placement} → StandsAt (graphIn g) k p → PlacementFits p
+    room q = record {
+      column = omega (arith, q .column, takenColumn-le (graphIn g) (v .ranked) k now-small, v .most);
+      left = omega (arith, q .left, lefts-le (graphIn g) (v .ranked) k);
+      right = omega (arith, q .right, rights-le (graphIn g) (v .ranked) k);
+    }
 
 -- The columns once rank k stands
 
-module _ {g : Graph} {k : ℕ} {c : code-columns.Columns} (s : ColumnsOf g k c) {p : Placement} (q : PlacedAt (graphIn g) k p) where
+module _ {g : Graph} (v : GraphFits g) (k : ℕ) {p : Placement} (q : StandsAt (graphIn g) k p) {o : Incident} (h : Holds (upper (graphIn g)) o (outgoing (graphIn g) k))
+    (e : g .cables ≡ size (graphIn g)) where
+  pub opens : Opens (g .cables) o p
+  unfolding outs
+  opens = record {
+    most = outs-four (v .ranked) k h;
+    ports = omega (arith, row-length (p .ports) (q .most), ap length (q .ports), all-out (ins (graphIn g) k) (outs (graphIn g) k) (degree (graphIn g) (v .ranked) k), h .count);
+    below = λ j b. rw e (line-below (graphIn g) k o j b (lines-held (upper (graphIn g)) h) (h .count));
+  }
+
   pub columns-next :
-      {ys qs : List ℕ} {n : ℕ} → g .cables ≡ size (graphIn g)
-      → take (g .cables) ys ≡ tabulate (g .cables) (cableBy (graphIn g .lowers) k p (c .cables))
+      {c : code-columns.Columns} {ys qs : List ℕ} → ColumnsOf g k c
+      → take (g .cables) ys ≡ setEach (linesIn o) (portColumns p) (map (movedBy p) (take (g .cables) (c .cables)))
       → take (k + 1) qs ≡ map (movedBy p) (take k (c .parts)) ++ (p .column + p .left) ∷ []
-      → n ≡ oneIf (eqb (p .outs .count) 4)
-      → ColumnsOf g (k + 1) (record { cables = ys; parts = qs; count = p .last + n })
-  unfolding columns step opening newLast width lefts rights ins outs
-  columns-next {ys} {qs} {n} e hy hq hn =
+      → ColumnsOf g (k + 1) (record { cables = ys; parts = qs; count = c .count + p .left + p .right })
+  unfolding columns step opening takenColumn lefts rights ins outs
+  columns-next s hy hq =
+      let G = graphIn g in
       rw add-one
       (record {
         cables =
             hy
-            ∙ ap (λ (m : ℕ). tabulate m (cableBy (graphIn g .lowers) k p (c .cables))) e
-            ∙ opening-lines (graphIn g .lowers) k _ (p .column) (p .left) (p .right) (p .last) (g .cables) (c .cables) e
-            ∙ opening-same (graphIn g .lowers) k (lines-held (upper (graphIn g)) (q .opens)) (q .column) (left-same q) (right-same q) (last-same q) (s .cables);
-        parts = (rw add-one at hq) ∙ standing-same (q .column) (left-same q) (right-same q) (s .parts);
-        count = ap₂ _+_ (last-same q) (hn ∙ ap (λ (j : ℕ). oneIf (eqb j 4)) (q .opens .count));
+            ∙ opening-same (lines-held (upper G) h) (q .column) (q .left) (q .right) (q .ports) (s .cables)
+            ∙ opened-cables G k _ (columns G k .cables) (moved _ _ _) (length-map (outPorts (ins G k) (outs G k)) _ ∙ all-out (ins G k) (outs G k) (degree G (v .ranked) k)) (length-cables G k);
+        parts = (rw add-one at hq) ∙ standing-same (q .column) (q .left) (q .right) (s .parts);
+        count = rw (s .count, q .left, q .right);
       })
 
 pub columns-start : {g : Graph} {ps : List ℕ} → GraphFits g → g .cables ≡ size (graphIn g) → ColumnsOf g 0 (record { cables = replicate mostCables 0; parts = ps; count = 1 })

@@ -9,13 +9,15 @@ use lib.ListN.{length, getD, length-append, length-map, length-replicate, getD-r
 use lib.Seq.{getD-at}
 use lib.Dec.{eqb}
 use borrow.Author.Tests.{eqb-true, eq-eqb, ne-eqb}
-use Rattle.lists.specs.Select.{range, without, indexOf, sortBy, oneIf}
+use Rattle.lists.specs.Select.{range, without, indexOf, sortBy}
 use Rattle.lists.proofs.Select.{getD-tabulate, length-tabulate, getD-map, getD-mem, filter-e, filter-i, range-e, range-i, Distinct, distinct-range, distinct-filter, distinct-places, indexOf-below, getD-indexOf, indexOf-one}
 use Rattle.lists.proofs.Filters.{without-absent}
 use Rattle.lists.proofs.Lastly.{lastly-e, lastly-i, length-lastly, distinct-lastly, lastly-last, lastly-rises, without-most}
 use Rattle.lists.proofs.Sort.{sortBy-e, sortBy-i, length-sortBy, distinct-sortBy, rising-sortBy}
-use Rattle.order.specs.Graph.{StGraph, size, lower, upper, linesAt}
-use Rattle.layout.specs.Columns.{takenPlace, newLeft, newRight, newLast, moved, bottomLine, topLine, outgoing, incoming, taken, columnAt, step, columns}
+use Rattle.order.specs.Graph.{StGraph, size, lower, upper, linesAt, Ranked}
+use Rattle.layout.specs.Ports.{inPorts, outPorts, placeBelow, newLeft, newRight, portColumn}
+use Rattle.layout.specs.Columns.{moved, bottomLine, topLine, outgoing, incoming, taken, step, columns}
+use Rattle.layout.proofs.Ports.{Ports, shown, port-column}
 
 -- The fourth of a list that has one: what stands there is not the default
 fourth-there : (l : List ℕ) (d m : ℕ) → length l ≡ m → getD l 3 d < d → 3 < m
@@ -55,8 +57,8 @@ getD-last f l a k e = getD-at (map f l) a [] 0 k (length-map l f ∙ e)
 getD-none : (f : ℕ → ℕ) (l : List ℕ) (j b : ℕ) → length l ≡ b → b ≡ 0 → getD (map f l) j 0 ≡ 0
 getD-none f l j b e h = List·getD-eq-default (map f l) 0 (omega (arith, length-map l f))
 
-getD-half : (f : ℕ → ℕ) (l : List ℕ) (b : ℕ) → length l ≡ b → 0 < b → getD (map f l) ((length l - 1) / 2) 0 ≡ f (getD l ((b - 1) / 2) 0)
-getD-half f l b e h = getD-map f l ((length l - 1) / 2) 0 0 (omega arith) ∙ ap (λ (c : ℕ). f (getD l ((c - 1) / 2) 0)) e
+getD-half : (f : ℕ → ℕ) (l : List ℕ) (q b : ℕ) → length l ≡ b → 0 < b → q ≡ (b - 1) / 2 → getD (map f l) q 0 ≡ f (getD l ((b - 1) / 2) 0)
+getD-half f l q b e h p = getD-map f l q 0 0 (omega arith) ∙ ap (λ (c : ℕ). f (getD l c 0)) p
 
 module _ (G : StGraph) where
   -- Outgoing cables
@@ -217,10 +219,10 @@ module _ (G : StGraph) where
   takenColumn k = taken G (columns G k .cables) k
 
   unfoldable pub lefts : ℕ → ℕ
-  lefts k = oneIf (newLeft (ins k) (outs k))
+  lefts k = newLeft (outPorts (ins k) (outs k))
 
   unfoldable pub rights : ℕ → ℕ
-  rights k = oneIf (newRight (ins k) (outs k))
+  rights k = newRight (outPorts (ins k) (outs k))
 
   -- The state at the start
 
@@ -234,12 +236,12 @@ module _ (G : StGraph) where
 
   -- The state once rank k stands
 
-  pub cable-opened : (k i : ℕ) → i < size G → lower G i ≡ k → cable (suc k) i ≡ columnAt (takenColumn k) (width k + lefts k + rights k) (outPlace k i)
-  unfolding cable columns step takenColumn width lefts rights outPlace ins outs
-  cable-opened k i h e = getD-tabulate (size G) _ i 0 h ∙ rw (eq-eqb (lower G i) k e)
+  opened-port : (k i : ℕ) → i < size G → lower G i ≡ k → cable (suc k) i ≡ getD (map (portColumn (takenColumn k) (lefts k)) (outPorts (ins k) (outs k))) (outPlace k i) 0
+  unfolding cable columns step takenColumn lefts outPlace ins outs
+  opened-port k i h e = getD-tabulate (size G) _ i 0 h ∙ rw (eq-eqb (lower G i) k e)
 
   pub cable-kept : (k i : ℕ) → i < size G → (lower G i ≡ k → ⊥) → cable (suc k) i ≡ moved (takenColumn k) (lefts k) (rights k) (cable k i)
-  unfolding cable columns step takenColumn width lefts rights outPlace ins outs
+  unfolding cable columns step takenColumn lefts rights ins outs
   cable-kept k i h n = getD-tabulate (size G) _ i 0 h ∙ rw (ne-eqb (lower G i) k n)
 
   pub length-cables : (k : ℕ) → length (columns G k .cables) ≡ size G
@@ -260,7 +262,7 @@ module _ (G : StGraph) where
   unfolding part columns step takenColumn lefts rights ins outs
   part-opened k = getD-last _ (columns G k .parts) _ k (length-parts k)
 
-  pub width-suc : (k : ℕ) → width (suc k) ≡ width k + lefts k + rights k + oneIf (newLast (outs k))
+  pub width-suc : (k : ℕ) → width (suc k) ≡ width k + lefts k + rights k
   unfolding width columns step lefts rights ins outs
   width-suc k = refl
 
@@ -316,8 +318,27 @@ module _ (G : StGraph) where
       let xs = columns G k .cables in
       getD-none (λ i. getD xs i 0) (incoming G xs k) _ (ins k) (length-incoming xs k) e
 
-  pub takenColumn-comes : (k : ℕ) → 0 < ins k → takenColumn k ≡ cable k (inAt k ((ins k - 1) / 2))
-  unfolding takenColumn taken ins inAt cable takenPlace
-  takenColumn-comes k h =
-      let xs = columns G k .cables in
-      getD-half (λ i. getD xs i 0) (incoming G xs k) (ins k) (length-incoming xs k) h
+  -- With at most four cables at a rank
+
+  module _ (R : Ranked G) where
+    pub degree : (k : ℕ) → ins k + outs k ≤ 4
+    unfolding ins outs
+    degree k = omega (arith, R .four k, length-outgoing k)
+
+    -- the new columns of rank k
+    pub ports : (k : ℕ) → Ports (ins k) (outs k) (lefts k) (rights k)
+    unfolding lefts rights
+    ports k = shown (ins k) (outs k) (degree k) .columns
+
+    -- the outgoing cables of rank k have the columns from the first new one on
+    pub cable-opened : (k i : ℕ) → i < size G → lower G i ≡ k → cable (suc k) i ≡ takenColumn k + outPlace k i
+    unfolding lefts
+    cable-opened k i h e = opened-port k i h e ∙ port-column (ins k) (outs k) (degree k) (takenColumn k) (outPlace k i) (outPlace-below k i h e)
+
+    pub takenColumn-comes : (k : ℕ) → 0 < ins k → takenColumn k ≡ cable k (inAt k ((ins k - 1) / 2))
+    unfolding takenColumn taken ins inAt cable
+    takenColumn-comes k h =
+        let xs = columns G k .cables in
+        let e : length (incoming G xs k) ≡ ins k = length-incoming xs k in
+        getD-half (λ i. getD xs i 0) (incoming G xs k) _ (ins k) e h
+        (ap (λ (n : ℕ). placeBelow (inPorts n)) e ∙ shown (ins k) (outs k) (degree k) .taken)

@@ -1,23 +1,20 @@
 -- The count of columns while ranks are placed: every stored column is below it, it grows with the cables that were opened, and every column
 -- is that of an opened cable. Assumes nothing.
 use Prim.Native.Nat.{ℕ, zero, suc, _+_, _-_, _/_, _<_, _≤_}
-use mathlib.Core.Path.{_≡_, refl, sym, _∙_, ap, subst}
+use mathlib.Core.Path.{_≡_, refl, _∙_, ap, subst}
 use mathlib.Core.Bool.{true}
 use native.Mathlib.Omega.{arith}
 use native.Mathlib.Decide.{decLt, ℕ-discrete}
 use lib.Dec.{eqb, ltb}
 use lib.ListN.{getD, List·getD-eq-default}
 use borrow.Author.Tests.{lt-ltb, le-ltb}
-use Rattle.lists.specs.Select.{range, count, oneIf}
+use Rattle.lists.specs.Select.{range, count}
 use Rattle.lists.proofs.Select.{getD-mem, length-filter, indexOf-getD}
-use Rattle.lists.proofs.Tests.{oneIf-le}
 use Rattle.lists.proofs.Sums.{count-key, count-all, count-none}
 use Rattle.order.specs.Graph.{StGraph, size, lower, linesAt, Ranked}
-use Rattle.layout.specs.Columns.{newRight, newLast, moved, outgoing, columns}
-use Rattle.layout.proofs.Step.{outgoing-e, length-outgoing, distinct-outgoing, cable, part, width, outs, ins, outPlace, inAt, takenColumn, lefts, rights, cable-start, width-start, cable-opened, cable-kept, length-cables, part-kept, part-opened, width-suc, outPlace-below, inPlace-below, takenColumn-none, takenColumn-comes}
-use Rattle.layout.proofs.Moved.{moved-left, moved-right, moved-none}
-use Rattle.layout.proofs.Ports.{Ports, ports}
-use Rattle.layout.proofs.NewColumns.{new-columns, last-four, last-other, columnAt-last, columnAt-near, moved-le}
+use Rattle.layout.specs.Columns.{moved, outgoing, columns}
+use Rattle.layout.proofs.Step.{outgoing-e, length-outgoing, distinct-outgoing, cable, part, width, outs, ins, outPlace, inAt, takenColumn, lefts, rights, cable-start, width-start, cable-opened, cable-kept, length-cables, part-kept, part-opened, width-suc, outPlace-below, inPlace-below, takenColumn-none, ports, takenColumn-comes}
+use Rattle.layout.proofs.Moved.{moved-left, moved-right, moved-none, moved-le}
 
 module _ (G : StGraph) where
   -- The outgoing cable at a place
@@ -49,21 +46,13 @@ module _ (G : StGraph) where
   unfolding opened
   opened-suc k = omega (arith, count-key (λ i. true) (lower G) k (size G), outs-count k)
 
-  -- the new column right of all
-  unfoldable pub lasts : ℕ → ℕ
-  lasts k = oneIf (newLast (outs G k))
-
-  pub width-grows : (k : ℕ) → width G (suc k) ≡ width G k + lefts G k + rights G k + lasts k
-  unfolding lasts
-  width-grows k = width-suc G k
-
   -- a cable that has no line has column 0
   pub cable-none : (k i : ℕ) → size G ≤ i → cable G k i ≡ 0
   unfolding cable
   cable-none k i h = List·getD-eq-default (columns G k .cables) 0 (omega (arith, length-cables G k))
 
 module _ (G : StGraph) (H : Ranked G) where
-  -- at rank k: the count of columns before it, its new columns left, right and last, and its outgoing cables
+  -- at rank k: the count of columns before it, its new columns left and right, and its outgoing cables
   abbrev W : ℕ → ℕ
   W k = width G k
 
@@ -73,15 +62,8 @@ module _ (G : StGraph) (H : Ranked G) where
   abbrev B : ℕ → ℕ
   B k = rights G k
 
-  abbrev L : ℕ → ℕ
-  L k = lasts G k
-
   abbrev O : ℕ → ℕ
   O k = outs G k
-
-  pub degree : (k : ℕ) → ins G k + outs G k ≤ 4
-  unfolding ins outs
-  degree k = omega (arith, H .four k, length-outgoing G k)
 
   pub goes-out : (k : ℕ) → suc k < G .parts → 0 < outs G k
   goes-out k h = let c = H .continued k h in omega (arith, outPlace-below G k (c .0) (c .1) (c .2))
@@ -98,38 +80,23 @@ module _ (G : StGraph) (H : Ranked G) where
           absurd (omega (arith, H .rises (outAt G k 0) (g .0), H .inside (outAt G k 0) (g .0)))
       go (no l) = omega arith
 
-  -- The table at rank k
+  pub ends-none : (k : ℕ) → outs G k ≡ 0 → (lefts G k ≡ 0) × (rights G k ≡ 0)
+  ends-none k e = ports G H k .none e
 
-  pub table : (k : ℕ) → 0 < outs G k → lefts G k + rights G k + lasts G k + 1 ≡ outs G k
-  unfolding lefts rights lasts
-  table k h = new-columns (ins G k) (O k) h (degree k)
-
-  pub ports-at : (k : ℕ) → Ports (ins G k) (outs G k) (lefts G k) (rights G k)
-  unfolding lefts rights
-  ports-at k = ports (ins G k) (O k) (omega (arith, degree k))
-
-  pub lasts-four : (k : ℕ) → outs G k ≡ 4 → lasts G k ≡ 1
-  unfolding lasts
-  lasts-four k e = last-four (O k) e
-
-  pub lasts-other : (k : ℕ) → (outs G k ≡ 4 → ⊥) → lasts G k ≡ 0
-  unfolding lasts
-  lasts-other k q = last-other (O k) q
-
-  pub rights-le : (k : ℕ) → rights G k ≤ 1
-  unfolding rights
-  rights-le k = oneIf-le (newRight (ins G k) (O k))
+  -- one column for each outgoing cable
+  pub table : (k : ℕ) → 0 < outs G k → lefts G k + rights G k + 1 ≡ outs G k
+  table k h = ports G H k .all h
 
   -- The count of columns
 
   pub width-opened : (k : ℕ) → k < G .parts → W k + k ≡ opened G k + 1
   width-opened zero h = omega (arith, width-start G, opened-start G)
   width-opened (suc k) h =
-      omega (arith, width-opened k (omega arith), width-grows G k, opened-suc G k, table k (goes-out k h))
+      omega (arith, width-opened k (omega arith), width-suc G k, opened-suc G k, table k (goes-out k h))
 
   -- the last rank opens no cable and puts in no column
   pub width-ends : (k : ℕ) → outs G k ≡ 0 → width G (suc k) ≡ width G k
-  width-ends k e = omega (arith, width-grows G k, ports-at k .none e, lasts-other k (λ q. omega arith))
+  width-ends k e = omega (arith, width-suc G k, ends-none k e)
 
   pub opened-all : (k : ℕ) → G .parts ≤ suc k → opened G k ≡ size G
   unfolding opened
@@ -141,24 +108,11 @@ module _ (G : StGraph) (H : Ranked G) where
   pub width-all : 0 < G .parts → W (G .parts) + G .parts ≡ size G + 2
   width-all h = let e : suc (G .parts - 1) ≡ G .parts = omega arith in subst (λ (k : ℕ). W k + k ≡ size G + 2) e (width-last (G .parts - 1) e)
 
-  -- The column of a cable that rank k opens: beside the one that was taken, or, of the fourth, the last.
-
-  pub opened-last :
-      (k i : ℕ) → i < size G → lower G i ≡ k → outPlace G k i ≡ 3
-      → (lasts G k ≡ 1) × (cable G (suc k) i ≡ W k + A k + B k)
-  opened-last k i h e q = (
-    lasts-four k (omega (arith, degree k, outPlace-below G k i h e)),
-    cable-opened G k i h e ∙ rw q (columnAt-last (takenColumn G k) (W k + A k + B k)),
-  )
-
-  pub opened-near :
-      (k i : ℕ) → i < size G → lower G i ≡ k → (outPlace G k i ≡ 3 → ⊥)
-      → (outPlace G k i ≤ A k + B k) × (cable G (suc k) i ≡ takenColumn G k + outPlace G k i)
-  opened-near k i h e q =
-      let b : outPlace G k i < O k = outPlace-below G k i h e in (
-        ports-at k .wide (outPlace G k i) b (omega (arith, degree k)),
-        cable-opened G k i h e ∙ columnAt-near (takenColumn G k) (W k + A k + B k) (outPlace G k i) q,
-      )
+  -- the column of a cable that rank k opens is within the block from the one taken
+  pub opened-within : (k i : ℕ) → i < size G → lower G i ≡ k → outPlace G k i ≤ lefts G k + rights G k
+  opened-within k i h e =
+      let b : outPlace G k i < O k = outPlace-below G k i h e in
+      omega (arith, table k (omega arith))
 
   -- Every stored column is below the count, a cable's that is not opened too.
 
@@ -167,7 +121,7 @@ module _ (G : StGraph) (H : Ranked G) where
     where
       go : Dec (ins G k ≡ 0) → takenColumn G k < W k
       go (yes e) = omega (arith, takenColumn-none G k e, c 0)
-      go (no q) = omega (arith, takenColumn-comes G k (omega arith), c (inAt G k ((ins G k - 1) / 2)))
+      go (no q) = omega (arith, takenColumn-comes G H k (omega arith), c (inAt G k ((ins G k - 1) / 2)))
 
   pub cable-below : (k i : ℕ) → cable G k i < W k
   cable-below zero i = go (decLt i (size G))
@@ -175,16 +129,13 @@ module _ (G : StGraph) (H : Ranked G) where
       go : Dec (i < size G) → cable G 0 i < W 0
       go (yes l) = omega (arith, cable-start G i l, width-start G)
       go (no l) = omega (arith, cable-none G 0 i (omega arith), width-start G)
-  cable-below (suc k) i = go (takenColumn-below-of k (λ j. cable-below k j)) (cable-below k i) (decLt i (size G)) (ℕ-discrete (lower G i) k) (ℕ-discrete (outPlace G k i) 3)
+  cable-below (suc k) i = go (takenColumn-below-of k (λ j. cable-below k j)) (cable-below k i) (decLt i (size G)) (ℕ-discrete (lower G i) k)
     where
-      go :
-          takenColumn G k < W k → cable G k i < W k → Dec (i < size G) → Dec (lower G i ≡ k) → Dec (outPlace G k i ≡ 3)
-          → cable G (suc k) i < W (suc k)
-      go t c (no l) d f = omega (arith, cable-none G (suc k) i (omega arith), width-grows G k)
-      go t c (yes l) (yes e) (yes f) = omega (arith, opened-last k i l e f, width-grows G k)
-      go t c (yes l) (yes e) (no f) = omega (arith, opened-near k i l e f, width-grows G k)
-      go t c (yes l) (no e) f =
-          omega (arith, cable-kept G k i l e, width-grows G k, moved-le (takenColumn G k) (A k) (B k) (cable G k i))
+      go : takenColumn G k < W k → cable G k i < W k → Dec (i < size G) → Dec (lower G i ≡ k) → cable G (suc k) i < W (suc k)
+      go t c (no l) d = omega (arith, cable-none G (suc k) i (omega arith), width-suc G k)
+      go t c (yes l) (yes e) = omega (arith, cable-opened G H k i l e, opened-within k i l e, width-suc G k)
+      go t c (yes l) (no e) =
+          omega (arith, cable-kept G k i l e, width-suc G k, moved-le (takenColumn G k) (A k) (B k) (cable G k i))
 
   pub takenColumn-below : (k : ℕ) → takenColumn G k < W k
   takenColumn-below k = takenColumn-below-of k (cable-below k)
@@ -195,10 +146,10 @@ module _ (G : StGraph) (H : Ranked G) where
     where
       go : (j < k → part G k j < W k) → Dec (j < k) → part G (suc k) j < W (suc k)
       go below (yes l) =
-          omega (arith, below l, part-kept G k j l, width-grows G k, moved-le (takenColumn G k) (A k) (B k) (part G k j))
+          omega (arith, below l, part-kept G k j l, width-suc G k, moved-le (takenColumn G k) (A k) (B k) (part G k j))
       go below (no l) =
           let e : j ≡ k = omega arith in
-          rw e (omega (arith, takenColumn-below k, part-opened G k, width-grows G k))
+          rw e (omega (arith, takenColumn-below k, part-opened G k, width-suc G k))
 
   -- Once s stands, every column is that of an opened cable.
 
@@ -213,37 +164,24 @@ module _ (G : StGraph) (H : Ranked G) where
   held-cast : (k c d : ℕ) → c ≡ d → Held k c → Held k d
   held-cast k c d q (i, l, o, e) = (i, l, o, e ∙ q)
 
-  held-near : (k j : ℕ) → j < outs G k → (j ≡ 3 → ⊥) → Held (suc k) (takenColumn G k + j)
-  held-near k j h q =
+  held-near : (k j : ℕ) → j < outs G k → Held (suc k) (takenColumn G k + j)
+  held-near k j h =
       let g = outAt-goes G k j h in
-      let e = outPlace-outAt G k j h in
-      (outAt G k j, g .0, omega arith, opened-near k (outAt G k j) (g .0) (g .1) (λ r. q (sym e ∙ r)) .1 ∙ rw e refl)
-
-  held-last : (k : ℕ) → outs G k ≡ 4 → Held (suc k) (W k + A k + B k)
-  held-last k h =
-      let l : 3 < O k = omega arith in
-      let g = outAt-goes G k 3 l in
-      (outAt G k 3, g .0, omega arith, opened-last k (outAt G k 3) (g .0) (g .1) (outPlace-outAt G k 3 l) .1)
+      (outAt G k j, g .0, omega arith, cable-opened G H k (outAt G k j) (g .0) (g .1) ∙ rw (outPlace-outAt G k j h) refl)
 
   held-suc : (k : ℕ) → 0 < outs G k → ((c : ℕ) → c < W k → (c ≡ takenColumn G k → ⊥) → Held k c) → (c : ℕ) → c < W (suc k) → Held (suc k) c
-  held-suc k h old c l = go (takenColumn-below k) (decLt c p) (decLt (p + A k + B k) c) (decLt c (W k + A k + B k))
+  held-suc k h old c l = go (decLt c p) (decLt (p + A k + B k) c)
     where
       p : ℕ
       p = takenColumn G k
 
-      go : p < W k → Dec (c < p) → Dec (p + A k + B k < c) → Dec (c < W k + A k + B k) → Held (suc k) c
-      go t (yes u) d f = held-cast (suc k) _ c (moved-left p (A k) (B k) c u) (held-kept k c (old c (omega arith) (λ q. omega arith)))
-      go t (no u) (no v) f =
-          held-cast (suc k) (p + (c - p)) c (omega arith)
-          (held-near k (c - p) (omega (arith, table k h)) (λ q. omega (arith, ports-at k .one-left, rights-le k)))
-      go t (no u) (yes v) (yes w) =
+      go : Dec (c < p) → Dec (p + A k + B k < c) → Held (suc k) c
+      go (yes u) d =
+          held-cast (suc k) _ c (moved-left p (A k) (B k) c u) (held-kept k c (old c (omega (arith, takenColumn-below k)) (λ q. omega arith)))
+      go (no u) (no v) = held-cast (suc k) (p + (c - p)) c (omega arith) (held-near k (c - p) (omega (arith, table k h)))
+      go (no u) (yes v) =
           let d : ℕ = c - (A k + B k) in
-          held-cast (suc k) _ c (moved-right p (A k) (B k) d (omega arith) ∙ omega arith) (held-kept k d (old d (omega arith) (λ q. omega arith)))
-      go t (no u) (yes v) (no w) = last (ℕ-discrete (O k) 4)
-        where
-          last : Dec (O k ≡ 4) → Held (suc k) c
-          last (yes e) = held-cast (suc k) (W k + A k + B k) c (omega (arith, lasts-four k e, width-grows G k)) (held-last k e)
-          last (no e) = absurd (omega (arith, lasts-other k e, width-grows G k))
+          held-cast (suc k) _ c (moved-right p (A k) (B k) d (omega arith) ∙ omega arith) (held-kept k d (old d (omega (arith, width-suc G k)) (λ q. omega arith)))
 
   pub reached : 2 ≤ G .parts → (k c : ℕ) → c < W (suc k) → (i : ℕ) × (i < size G) × (lower G i < suc k) × (cable G (suc k) i ≡ c)
   reached two zero c h = held-suc 0 (goes-out 0 two) (λ d l q. absurd (omega (arith, takenColumn-below 0, width-start G))) c h
@@ -251,6 +189,6 @@ module _ (G : StGraph) (H : Ranked G) where
     where
       go : ((d : ℕ) → d < W (suc k) → Held (suc k) d) → Dec (O (suc k) ≡ 0) → Held (suc (suc k)) c
       go old (yes e) =
-          held-cast (suc (suc k)) _ c (moved-none (takenColumn G (suc k)) (A (suc k)) (B (suc k)) c (ports-at (suc k) .none e .0) (ports-at (suc k) .none e .1))
+          held-cast (suc (suc k)) _ c (moved-none (takenColumn G (suc k)) (A (suc k)) (B (suc k)) c (ends-none (suc k) e .0) (ends-none (suc k) e .1))
           (held-kept (suc k) c (old c (omega (arith, width-ends (suc k) e))))
       go old (no e) = held-suc (suc k) (omega arith) (λ d l q. old d l) c h

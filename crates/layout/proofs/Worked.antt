@@ -1,4 +1,5 @@
 -- Stations B, C and D of document 01 at this stage, in ranks: where the ranks stand and where the cables turn. B's and D's values are document 01's.
+-- D has all four drawings of figure 3 and the last of figure 2; a chain has those with one cable at an end.
 -- And D, which has four cables at both ends, is ranked, so that what is shown of ranked stations holds of it. Assumes nothing.
 use Prim.Native.Nat.{ℕ, zero, suc, _+_, _<_, _≤_}
 use native.Mathlib.Omega.{arith}
@@ -30,7 +31,13 @@ c = record { parts = 4; lowers = 0 ∷ 0 ∷ 1 ∷ 2 ∷ 0 ∷ []; uppers = 2 �
 abbrev pub d : StGraph
 d = record { parts = 5; lowers = 0 ∷ 0 ∷ 0 ∷ 0 ∷ 1 ∷ 1 ∷ 1 ∷ 2 ∷ 2 ∷ 3 ∷ []; uppers = 1 ∷ 2 ∷ 3 ∷ 4 ∷ 2 ∷ 3 ∷ 4 ∷ 3 ∷ 4 ∷ 4 ∷ [] }
 
+abbrev chain : StGraph
+chain = record { parts = 3; lowers = 0 ∷ 1 ∷ []; uppers = 1 ∷ 2 ∷ [] }
+
 record Worked : Type 0 where
+  chain-spots : spots chain ≡ spotAt 0 0 ∷ spotAt 0 1 ∷ spotAt 0 2 ∷ []
+  chain-line-0 : corners chain 0 ≡ []
+  chain-line-1 : corners chain 1 ≡ []
   b-line-2 : corners b 2 ≡ spotAt 1 3 ∷ []
   b-line-3 : corners b 3 ≡ spotAt 1 0 ∷ []
   c-spots : spots c ≡ spotAt 1 0 ∷ spotAt 0 1 ∷ spotAt 0 2 ∷ spotAt 0 3 ∷ []
@@ -43,6 +50,9 @@ record Worked : Type 0 where
 worked : Worked
 unfolding layout-computing
 worked = record {
+  chain-spots = refl;
+  chain-line-0 = refl;
+  chain-line-1 = refl;
   b-line-2 = refl;
   b-line-3 = refl;
   c-spots = refl;

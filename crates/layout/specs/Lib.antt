@@ -1,4 +1,5 @@
 -- Document 01, 'Columns and rows', in ranks: a cable is its line, with the ranks of its two parts. Assumes nothing.
+pub mod Ports
 pub mod Columns
 pub mod Points
 pub mod Layout

@@ -6,6 +6,7 @@ use words::limits::MOST_PARTS;
 
 mod courses;
 mod ends;
+mod figures;
 mod incident;
 mod placing;
 

@@ -1,78 +1,27 @@
 // The columns of cables and parts, rank by rank.
 use crate::Columns;
+use crate::figures::Placement;
+use crate::figures::Port;
+use crate::figures::placement_of;
 use crate::incident::Incident;
 use crate::incident::incoming;
-use crate::incident::index_of;
 use crate::incident::outgoing;
-use crate::incident::taken;
-use lists::one_if;
 use order::Graph;
 use words::Rank;
 use words::limits::MOST_CABLES;
 use words::limits::MOST_PARTS;
 ghost use mathlib.Core.Path.{_≡_};
-ghost use mathlib.Core.Bool.{cond};
+ghost use mathlib.Core.Bool.{true, cond};
 ghost use mathlib.Core.List.{[], _∷_, _++_, map};
 ghost use Prim.Native.Nat.{ℕ, _+_, _≤_, _<_};
-ghost use lib.ListN.{getD, take};
-ghost use Rattle.words.specs.Limits.{mostParts};
-ghost use Rattle.lists.specs.Select.{indexOf, tabulate};
-ghost use Rattle.order.specs.Arrays.{graphIn};
-ghost use Rattle.layout.specs.Columns.{newLeft, newRight, moved};
+ghost use lib.ListN.{length, getD, take, set};
+ghost use Rattle.words.specs.Limits.{mostParts, mostCables};
+ghost use Rattle.lists.specs.Stores.{setEach};
 ghost use Rattle.layout.specs.Arrays.{GraphFits};
 ghost use Rattle.layout.specs.Incidents.{linesIn};
-ghost use Rattle.layout.specs.Placements.{ColumnsOf, PlacementOf, PlacedAt, PlacementFits, movedBy, openedBy, cableBy};
+ghost use Rattle.layout.specs.Placements.{ColumnsOf, PlacementFits, Opens, movedBy, columnBy, portColumns};
 
-// Where a rank stands: its outgoing cables, the column that it takes, how many new ones come directly left and directly right of it, and the column
-// right of all.
-pub struct Placement {
-    pub outs: Incident,
-    pub column: u16,
-    pub left: u16,
-    pub right: u16,
-    pub last: u16,
-}
-
-fn opens_left(ins: usize, outs: usize) -> bool
-    ensures { λ r. ⌜ r ≡ newLeft ins outs ⌝ }
-{
-    3 <= outs || outs == 2 && ins == 2
-}
-
-fn opens_right(ins: usize, outs: usize) -> bool
-    ensures { λ r. ⌜ r ≡ newRight ins outs ⌝ }
-{
-    3 <= outs || outs == 2 && ins <= 1
-}
-
-fn placement_of(ins: Incident, outs: Incident, count: u16) -> Placement
-    requires { ⌜ (ins .count ≤ 4) × (count < 32768) ⌝ }
-    ensures { λ r. ⌜ PlacementOf ins outs count r ⌝ }
-{
-    let left = one_if(opens_left(ins.count, outs.count));
-    let right = one_if(opens_right(ins.count, outs.count));
-    Placement {
-        outs,
-        column: taken(ins),
-        left,
-        right,
-        last: count + left + right,
-    }
-}
-
-// Where rank k stands, by the columns of the ranks below it.
-fn placement_at(graph: Graph, k: Rank, columns: Columns) -> Placement
-    requires { ⌜ GraphFits graph ⌝ }
-    requires { ⌜ k .0 < graph .parts ⌝ }
-    requires { ⌜ ColumnsOf graph (k .0) columns ⌝ }
-    ensures { λ r. ⌜ PlacedAt (graphIn graph) (k .0) r ⌝ }
-{
-    let cables = columns.cables;
-    let outs = outgoing(graph, k);
-    let ins = incoming(graph, cables, k);
-    placement_of(ins, outs, columns.count)
-}
-
+// Where the column x is, once the part stands.
 fn moved(placement: Placement, x: u16) -> u16
     requires { ⌜ x + placement .left + placement .right < 65536 ⌝ }
     ensures { λ r. ⌜ r ≡ movedBy placement x ⌝ }
@@ -86,52 +35,78 @@ fn moved(placement: Placement, x: u16) -> u16
     x + placement.left + placement.right
 }
 
-// The column of the outgoing cable at place j.
-fn opened(placement: Placement, j: u16) -> u16
-    requires { ⌜ placement .column + j < 65536 ⌝ }
-    ensures { λ r. ⌜ r ≡ openedBy placement j ⌝ }
-{
-    if j == 3 {
-        placement.last
-    } else {
-        placement.column + j
-    }
-}
-
-// The column of a cable, once the rank stands that opens it or not.
-fn cable_column(placement: Placement, opens: bool, line: usize, x: u16) -> u16
+// Every column moves to where it is, once the part stands.
+fn move_columns(columns: &mut [u16], placement: Placement)
     requires { ⌜ PlacementFits placement ⌝ }
-    requires { ⌜ x < 32768 ⌝ }
-    ensures { λ r. ⌜ r ≡ cond opens (openedBy placement (indexOf line (linesIn (placement .outs)))) (movedBy placement x) ⌝ }
+    requires { ⌜ ((i : ℕ) → i < length (now columns) → getD (now columns) i 0 < 32768) ⌝ }
+    ensures { λ r. ⌜ now (columns .exit) ≡ map (movedBy placement) (now (columns .entry)) ⌝ }
 {
-    if opens {
-        opened(placement, index_of(placement.outs, line))
-    } else {
-        moved(placement, x)
+    let mut i = 0;
+    while i < columns.len() {
+        columns[i] = moved(placement, columns[i]);
+        i += 1;
     }
 }
 
-// The columns of the cables once rank k stands.
+// The column of an outgoing cable, by its port.
+fn port_column(placement: Placement, port: Port) -> u16
+    requires { ⌜ PlacementFits placement ⌝ }
+    ensures { λ r. ⌜ r ≡ columnBy placement port ⌝ }
+{
+    match port {
+        Port::Left => placement.column,
+        Port::Above => placement.column + placement.left,
+        Port::Right => placement.column + placement.left + 1,
+        Port::Below => placement.column + placement.left + 2,
+    }
+}
+
+// The cable at the line, if there is one, gets the column of its port.
+fn open_cable(columns: &mut [u16], is: bool, line: usize, placement: Placement, port: Port)
+    requires { ⌜ PlacementFits placement ⌝ }
+    requires { ⌜ (is ≡ true → line < length (now columns)) ⌝ }
+    ensures { λ r. ⌜ now (columns .exit) ≡ cond is (set (now (columns .entry)) line (columnBy placement port)) (now (columns .entry)) ⌝ }
+{
+    if is {
+        columns[line] = port_column(placement, port);
+    }
+}
+
+// The cables move, and the outgoing ones get the columns of their ports, from left to right.
+fn place_cables(columns: &mut [u16], outs: Incident, placement: Placement)
+    requires { ⌜ PlacementFits placement ⌝ }
+    requires { ⌜ ((i : ℕ) → i < length (now columns) → getD (now columns) i 0 < 32768) ⌝ }
+    requires { ⌜ Opens (length (now columns)) outs placement ⌝ }
+    ensures { λ r. ⌜ now (columns .exit) ≡ setEach (linesIn outs) (portColumns placement) (map (movedBy placement) (now (columns .entry))) ⌝ }
+{
+    move_columns(columns, placement);
+    let ports = placement.ports;
+    let a = ports.first;
+    let b = ports.second;
+    let c = ports.third;
+    let d = ports.fourth;
+    let n = outs.count;
+    open_cable(columns, 0 < n, outs.first.line, placement, a);
+    open_cable(columns, 1 < n, outs.second.line, placement, b);
+    open_cable(columns, 2 < n, outs.third.line, placement, c);
+    open_cable(columns, 3 < n, outs.fourth.line, placement, d);
+}
+
+// The columns of the first m cables, once the part stands from which the cables `outs` go out.
 fn cables_after(
-    graph: Graph,
-    k: Rank,
+    m: usize,
+    outs: Incident,
     placement: Placement,
     cables: [u16; MOST_CABLES],
 ) -> [u16; MOST_CABLES]
-    requires { ⌜ GraphFits graph ⌝ }
+    requires { ⌜ m ≤ mostCables ⌝ }
     requires { ⌜ PlacementFits placement ⌝ }
-    requires { ⌜ ((i : ℕ) → i < graph .cables → getD cables i 0 < 32768) ⌝ }
-    ensures { λ r. ⌜ take (graph .cables) r ≡ tabulate (graph .cables) (cableBy (graphIn graph .lowers) (k .0) placement cables) ⌝ }
+    requires { ⌜ ((i : ℕ) → i < m → getD cables i 0 < 32768) ⌝ }
+    requires { ⌜ Opens m outs placement ⌝ }
+    ensures { λ r. ⌜ take m r ≡ setEach (linesIn outs) (portColumns placement) (map (movedBy placement) (take m cables)) ⌝ }
 {
-    let lower = graph.lower;
-    let m = graph.cables;
-    let rank = k.number();
     let mut next = cables;
-    let mut i = 0;
-    while i < m {
-        next[i] = cable_column(placement, lower[i].number() == rank, i, next[i]);
-        i += 1;
-    }
+    place_cables(&mut next[..m], outs, placement);
     next
 }
 
@@ -144,29 +119,26 @@ fn parts_after(placement: Placement, k: Rank, parts: [u16; MOST_PARTS]) -> [u16;
 {
     let rank = k.number() as usize;
     let mut next = parts;
-    let mut i = 0;
-    while i < rank {
-        next[i] = moved(placement, next[i]);
-        i += 1;
-    }
+    move_columns(&mut next[..rank], placement);
     next[rank] = placement.column + placement.left;
     next
 }
 
-// The columns once rank k stands, from those before it.
+// The columns once rank k stands, from those before it: its drawing is chosen, and applied.
 fn add_rank(graph: Graph, k: Rank, columns: Columns) -> Columns
     requires { ⌜ GraphFits graph ⌝ }
     requires { ⌜ k .0 < graph .parts ⌝ }
     requires { ⌜ ColumnsOf graph (k .0) columns ⌝ }
     ensures { λ r. ⌜ ColumnsOf graph (k .0 + 1) r ⌝ }
 {
-    let placement = placement_at(graph, k, columns);
     let cables = columns.cables;
     let parts = columns.parts;
+    let outs = outgoing(graph, k);
+    let placement = placement_of(incoming(graph, cables, k), outs.count);
     Columns {
-        cables: cables_after(graph, k, placement, cables),
+        cables: cables_after(graph.cables, outs, placement, cables),
         parts: parts_after(placement, k, parts),
-        count: placement.last + one_if(placement.outs.count == 4),
+        count: columns.count + placement.left + placement.right,
     }
 }
 

@@ -16,6 +16,7 @@ pub mod Maps
 pub mod Fill
 pub mod Stores
 pub mod Storing
+pub mod SetEach
 pub mod Filters
 pub mod Kept
 pub mod Agree

@@ -1,99 +1,54 @@
--- The parts below i are moved. Assumes nothing.
+-- The parts of the ranks below k move, and rank k has the column beside the new left one. Assumes nothing.
+use borrow.Author.Needs.{needs}
 use native.Mathlib.Omega.{arith}
 use native.Mathlib.Numerals.{add-one}
-use borrow.Author.Needs.{needs}
-use Prim.Native.Nat.{ℕ, _+_, _≤_, _-_}
-use mathlib.Core.Path.{ap, _∙_}
-use mathlib.Core.List.{List, [], _∷_, _++_}
-use lib.ListN.{getD}
-use lib.Seq.{take-suc-set}
-use Rattle.lists.proofs.Fill.{Filled, filled-none, filled-more, filled-map}
+use Prim.Native.Nat.{ℕ, suc, _+_}
+use mathlib.Core.Path.{_≡_, sym, ap, _∙_}
+use mathlib.Core.List.{List, [], _∷_, _++_, map}
+use lib.ListN.{length, take, drop, set, length-append, length-drop}
+use lib.Seq.{length-take-le, getD-take, take-at, take-suc-set}
 use Rattle.layout.specs.Placements.{movedBy}
 use Rattle.layout.proofs.placing.parts_after.Statement.{statement}
 use Rattle.layout.proofs.placing.parts_after.Tie as tie
 
-abbrev Inv-loop : tie.InvT-loop
-Inv-loop placement rank next₀ i₀ next i = (i ≤ rank) × Filled (λ j. movedBy placement (getD next₀ j 0)) 0 i next₀ next
+-- the parts of the ranks below k
+first : (c : tie.After-next) → length (take (c .before .number .result) (c .before .before .args .parts)) ≡ c .before .number .result
+first c = length-take-le (c .before .number .result) (c .before .before .args .parts) (omega arith)
 
-abbrev μ-loop : tie.MeasureT-loop
-μ-loop placement rank next₀ i₀ next i = rank - i
+-- what they become when they move
+moves : (c : tie.After-move-columns) → length (c .move-columns .last .0) ≡ c .before .before .number .result
+moves c = c .move-columns .kept .0 ∙ first (c .before)
 
-number-requires : tie.Need-number-requires Inv-loop μ-loop
-number-requires c κs = tt
+move-columns-requires : tie.Need-move-columns-requires
+move-columns-requires c κs =
+    let s = c .before .before in
+    let k = c .before .number .result in
+    (s .pre .0, λ i h. omega (arith, getD-take k (s .args .parts) i 0 (omega (arith, first c)), s .pre .1 .1 i (omega (arith, first c))))
 
-cast-rank : tie.Need-cast-rank Inv-loop μ-loop
-cast-rank c = search needs
-
-loop-holds : tie.Need-loop-holds Inv-loop μ-loop
-loop-holds c = (omega arith, filled-none _ 0 _)
-
-mul-moved : tie.Need-mul-moved Inv-loop μ-loop
-mul-moved c = omega arith
-
-array-read-moved : tie.Need-array-read-moved Inv-loop μ-loop
-array-read-moved c = omega arith
-
-moved-requires : tie.Need-moved-requires Inv-loop μ-loop
-moved-requires c κs =
-    let s = c .before .before .before in
-    let l = c .before .loop in
-    omega (arith, l .inv .1 .rest (l .i) (omega arith), s .pre .1 .1 (l .i) (omega arith), s .pre .0)
-
-mul-next : tie.Need-mul-next Inv-loop μ-loop
-mul-next c = omega arith
-
-array-write-next : tie.Need-array-write-next Inv-loop μ-loop
-array-write-next c = omega arith
-
-add-i : tie.Need-add-i Inv-loop μ-loop
-add-i c = omega arith
-
-loop-less : tie.Need-loop-less Inv-loop μ-loop
-loop-less c = omega arith
-
-loop-again : tie.Need-loop-again Inv-loop μ-loop
-loop-again c =
-    let s = c .before .before .before .before in
-    let l = c .before .before .loop in
-    let e = c .moved .ensures ∙ ap (movedBy (s .args .placement)) (l .inv .1 .rest (l .i) (omega arith)) in
-    (omega arith, filled-more _ 0 (c .moved .result) (omega arith) e (l .inv .1))
-
-add-next : tie.Need-add-next Inv-loop μ-loop
-add-next c = omega arith
-
-mul-next-2 : tie.Need-mul-next-2 Inv-loop μ-loop
-mul-next-2 c = omega arith
-
-array-write-next-2 : tie.Need-array-write-next-2 Inv-loop μ-loop
-array-write-next-2 c = omega arith
-
-returns : tie.Need-returns Inv-loop μ-loop
+returns : tie.Need-returns
 returns c =
-    let l = c .before .before .loop in
-    let s = c .before .before .before .before .args in
+    let d = c .before .before in
+    let s = d .before .before .before .args in
+    let k = d .before .before .number .result in
     let v = s .placement .column + s .placement .left in
-    rw (add-one, c .before .before .before .number .ensures)
-    (take-suc-set (l .next) (s .k .0) v (omega arith)
-    ∙ ap (λ (x : List ℕ). x ++ v ∷ []) (filled-map (movedBy (s .placement)) 0 (l .i) (s .k .0) (s .parts) (l .next) (omega arith) (omega arith) (l .inv .1)))
+    let l = d .move-columns .last .0 ++ drop k (s .parts) in
+    let e = d .before .before .number .ensures in
+    rw add-one
+    (ap (λ (n : ℕ). take (suc n) (set l k v)) (sym e)
+    ∙ take-suc-set l k v (omega (arith, moves d, length-append (d .move-columns .last .0) (drop k (s .parts)), length-drop k (s .parts)))
+    ∙ ap (λ (x : List ℕ). x ++ v ∷ [])
+    (take-at (d .move-columns .last .0) (drop k (s .parts)) k (moves d) ∙ d .move-columns .ensures ∙ ap (λ (n : ℕ). map (movedBy (s .placement)) (take n (s .parts))) e))
 
 pub parts-after-spec : {M : Type 1} → statement M
 parts-after-spec =
     tie.close
     (tie.spec
-    Inv-loop
-    μ-loop
-    number-requires
-    cast-rank
-    loop-holds
-    mul-moved
-    array-read-moved
-    moved-requires
-    mul-next
-    array-write-next
-    add-i
-    loop-less
-    loop-again
-    add-next
-    mul-next-2
-    array-write-next-2
+    (λ c κs. tt)
+    (λ c. search needs)
+    (λ c. search needs)
+    (λ c. sym (first c))
+    move-columns-requires
+    (λ c. search needs)
+    (λ c. search needs)
+    (λ c. search needs)
     returns)
