@@ -54,9 +54,9 @@ size_t dovranis_most_words(void);
  *   to analyser. Each cable is level and upright runs in turn from one of its two parts to the other.
  *   It does not touch itself or a part that it doesn't join, and its own parts only with its ends. Any
  *   two cables have at most one crossing, and any other spot that they share is that of a part that
- *   both join. There are at most 2m - 2n + 4 corners, and at most two cables have more than two. A
- *   cable's length is the summed distance between the neighbouring points of its line, at most 3n + 5,
- *   and the total is the sum of all lengths.
+ *   both join. There are at most 2m - 2n + 4 corners, and no cable has more than two. A cable's length
+ *   is the summed distance between the neighbouring points of its line, at most 3n + 5, and the total
+ *   is the sum of all lengths.
  *
  * 1 to 11, a refusal:
  *   sheet      as it was, every word

@@ -108,14 +108,14 @@ def bundle(rng, n, ways):
 
 
 def long_cable(n):
-    """With s = 0 and t = n - 1 the cable between them has 3n steps: it leaves s
-    downward, comes to t from above, and s and t stand in the third and the second
-    of n + 1 columns. Parts 1 and 2 have three cables, the others four; n is 9 or
-    more."""
-    t, inner = n - 1, range(3, n - 1)
-    cables = {pair(p, inner[(i + k) % len(inner)]) for i, p in enumerate(inner) for k in (1, 2)}
-    cables.remove((3, n - 2))
-    return n, cables | {(0, 1), (0, 2), (0, 3), (0, t), (1, 2), (1, t), (2, t), (n - 2, t)}
+    """With s = 0 and t = n - 1 the cable between them has 3n - 5 steps: it runs
+    level from s, in the first of n columns, to the last, climbs past all other
+    parts and runs level back to t, in the third. s has two cables, parts 1 and 2
+    three, the others four; each part's rank is its number; n is 9 or more."""
+    t = n - 1
+    cables = {(p, p + k) for p in range(3, n - 3) for k in (1, 2)}
+    return n, cables | {(0, 1), (0, t), (1, 2), (1, 3), (2, n - 3), (2, t),
+                        (3, n - 2), (4, n - 2), (n - 3, t), (n - 2, t)}
 
 
 def ears(rng, n):
@@ -461,6 +461,22 @@ def any_list(rng, n_min=3, n_max=40):
 
 # Named lists. A name begins with what is due, then a comma.
 
+# Cables at s, at t; which of t's four columns from left to right is that of the
+# cable from the last-ranked part but one, if there are four; parts; cables.
+FOUR = [
+    (4, 2, None, 5, [(0, 1), (0, 2), (0, 3), (0, 4), (1, 2), (2, 3), (3, 4)]),
+    (4, 3, None, 5, [(0, 1), (0, 2), (0, 3), (0, 4), (1, 3), (2, 4), (3, 4)]),
+    (3, 4, 'first', 5, [(0, 1), (0, 2), (0, 4), (1, 3), (1, 4), (2, 4), (3, 4)]),
+    (2, 4, 'second', 5, [(0, 1), (0, 4), (1, 2), (1, 3), (1, 4), (2, 4), (3, 4)]),
+    (3, 4, 'third', 5, [(0, 1), (0, 3), (0, 4), (1, 2), (1, 4), (2, 4), (3, 4)]),
+    (2, 4, 'fourth', 6, [(0, 1), (0, 4), (1, 2), (1, 3), (1, 5), (2, 5), (3, 5), (4, 5)]),
+    (4, 4, 'first', 5, [(0, 1), (0, 2), (0, 3), (0, 4), (1, 4), (2, 3), (2, 4), (3, 4)]),
+    (4, 4, 'second', 5, [(0, 1), (0, 2), (0, 3), (0, 4), (1, 4), (2, 4), (3, 4)]),
+    (4, 4, 'third', 6, [(0, 1), (0, 2), (0, 3), (0, 4), (1, 5), (2, 5), (3, 5), (4, 5)]),
+    (4, 4, 'fourth', 6, [(0, 1), (0, 2), (0, 3), (0, 5), (1, 4), (2, 5), (3, 5), (4, 5)]),
+]
+
+
 def boundaries():
     out = []
 
@@ -620,6 +636,23 @@ def boundaries():
                 shape[0], shape[1], 'joined' if shape[2] else 'not joined'),
                 listed(rng, n, cables, s, t))
 
+    # Four cables at s or t. Without repeated cables this takes five parts, and the
+    # fourth column six. s is part 0 and t the last, and ranks are as the numbers.
+    for at_s, at_t, which, n, cables in FOUR:
+        put('sheet', '%d parts: %d cables at s; %s' % (
+            n, at_s, 'the %s of four columns climbs over t' % which if which else '%d at t' % at_t),
+            build(n, 0, n - 1, cables))
+
+    # s is 6 and t is 4. The second-ranked part, 5, has the highest number beside
+    # s and the last-ranked but one, 0, the lowest beside t; their cables are the
+    # last line at s and the first at t, then the first and the last.
+    ranks_turned = [(0, 1), (0, 4), (1, 3), (1, 4), (2, 3), (2, 5),
+                    (2, 6), (3, 4), (3, 6), (4, 6), (5, 6)]
+    put('sheet', '7 parts: 4 cables at s; 4 at t; ranks against the numbers',
+        build(7, 6, 4, ranks_turned))
+    put('sheet', '7 parts: 4 cables at s; 4 at t; ranks against the numbers, lines reversed',
+        build(7, 6, 4, ranks_turned[::-1]))
+
     # 256 parts.
     for what, (n, cables) in (('ladder', grid(2, 128)), ('grid', grid(16, 16)),
                               ('torus', torus(16, 16)),
@@ -632,7 +665,7 @@ def boundaries():
 
     # The longest cable that is known for so many parts.
     for n in (9, 256):
-        put('sheet', '%d parts: a cable of %d steps' % (n, 3 * n),
+        put('sheet', '%d parts: a cable of %d steps' % (n, 3 * n - 5),
             build(n, 0, n - 1, sorted(long_cable(n)[1])))
     return out
 

@@ -16,7 +16,7 @@ HERE = os.path.dirname(os.path.abspath(__file__))
 CRATE = os.path.join(os.path.dirname(HERE), 'crates', 'cases')
 
 # of the largest stations three are kept: a ladder, one with 512 cables and one with a long cable
-LARGE = ('sheet, 256 parts: ladder shuffled', 'sheet, 256 parts: 512 cables shuffled', 'sheet, 256 parts: a cable of 768 steps')
+LARGE = ('sheet, 256 parts: ladder shuffled', 'sheet, 256 parts: 512 cables shuffled', 'sheet, 256 parts: a cable of 763 steps')
 
 WORKED = (
     '10030003 20000002 30000001 30001002 30000002',

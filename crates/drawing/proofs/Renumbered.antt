@@ -2,11 +2,9 @@
 use Prim.Native.Nat.{ℕ, _+_, _<_}
 use native.Mathlib.Omega.{arith}
 use mathlib.Core.Path.{_≡_, refl, sym, ap, ap₂, subst, subst₂, _∙_}
-use mathlib.Core.Bool.{Bool}
 use mathlib.Core.List.{List, [], _∷_, _++_, map, map-map, List·Memᴰ, List·Memᴰ·head, List·Memᴰ·tail}
 use lib.ListN.{length, getD, length-map}
-use lib.Dec.{ltb}
-use Rattle.lists.specs.Select.{tabulate, count, sum, indexOf}
+use Rattle.lists.specs.Select.{tabulate, sum, indexOf}
 use Rattle.lists.proofs.Select.{getD-map, length-tabulate, getD-tabulate}
 use Rattle.lists.proofs.Agree.{tabulate-same}
 use Rattle.lists.proofs.Places.{mem-place}
@@ -87,18 +85,10 @@ module _ (names : List ℕ) where
     pub corners-renumbered : (i : ℕ) → i < length (d .routes) → routeAt (renumbered names d) i .corners ≡ routeAt d i .corners
     corners-renumbered i h = ap (λ (r : Route). r .corners) (route-renumbered i h)
 
-    -- any function of the corners, by line, and any test of them, counted
+    -- any function of the corners, by line
     pub map-renumbered :
         {A : Type 0} (f : List Spot → A) → map (λ r. f (r .corners)) (renumbered names d .routes) ≡ map (λ r. f (r .corners)) (d .routes)
     map-renumbered f = rw routes-called (map-map (λ (r : Route). f (r .corners)) called (d .routes))
-
-    pub count-renumbered :
-        (p : List Spot → Bool) → count (λ r. p (r .corners)) (renumbered names d .routes) ≡ count (λ r. p (r .corners)) (d .routes)
-    count-renumbered p = rw routes-called (count-map (λ (r : Route). p (r .corners)) called (d .routes))
-
-    pub bends-renumbered :
-        count (λ r. ltb 2 (length (r .corners))) (renumbered names d .routes) ≡ count (λ r. ltb 2 (length (r .corners))) (d .routes)
-    bends-renumbered = count-renumbered (λ (l : List Spot). ltb 2 (length l))
 
     pub corner-count-renumbered : cornerCount (renumbered names d .routes) ≡ cornerCount (d .routes)
     corner-count-renumbered = ap sum (map-renumbered (λ (l : List Spot). length l))

@@ -16,7 +16,7 @@ use Rattle.drawing.specs.Sizes.{Sizes}
 use Rattle.drawing.proofs.LengthWords.{LengthsFit}
 use Rattle.drawing.proofs.ReadBack.{SpotFits, AllFit, DrawingFits}
 use Rattle.drawing.proofs.WordCounts.{words-corners}
-use Rattle.drawing.proofs.Renumbered.{Names, parts-renumbered, routes-renumbered, spot-renumbered, first-renumbered, last-renumbered, corners-renumbered, points-renumbered, lengths-renumbered, bends-renumbered, corner-count-renumbered}
+use Rattle.drawing.proofs.Renumbered.{Names, parts-renumbered, routes-renumbered, spot-renumbered, first-renumbered, last-renumbered, corners-renumbered, points-renumbered, lengths-renumbered, corner-count-renumbered}
 
 -- the two parts of a cable under their names
 abbrev pub named : List ℕ → Ends → Ends
@@ -78,5 +78,5 @@ module _ (names : List ℕ) (d : Drawing) (N : Names (length (d .parts)) names) 
       width = S .width;
       height = S .height;
       corners = omega (arith, corner-words-renumbered, S .corners);
-      bends = omega (arith, bends-renumbered names d, S .bends);
+      bends = λ i h. omega (arith, ap length (corners-renumbered names d i (omega (arith, F .routes-count))), S .bends i h);
     }

@@ -3,10 +3,9 @@ use Prim.Native.Nat.{ℕ, _+_, _<_, _≤_}
 use mathlib.Core.Path.{_≡_}
 use mathlib.Core.List.{List}
 use lib.ListN.{length}
-use lib.Dec.{ltb}
 use Rattle.lists.specs.Select.{count}
 use Rattle.drawing.specs.Lines.{point}
-use Rattle.drawing.specs.Drawing.{Drawing, spotOf, pointsAt}
+use Rattle.drawing.specs.Drawing.{Drawing, spotOf, routeAt, pointsAt}
 use Rattle.drawing.specs.Counts.{isCorner}
 
 pub record Sizes (n m : ℕ) (d : Drawing) (sheet : List ℕ) : Type 0 where
@@ -21,5 +20,5 @@ pub record Sizes (n m : ℕ) (d : Drawing) (sheet : List ℕ) : Type 0 where
   pub height : d .height ≤ n + 1
   -- 'has at most 2m - 2n + 4 corners'
   pub corners : count isCorner sheet + (n + n) ≤ m + m + 4
-  -- 'at most two cables have more than two'
-  pub bends : count (λ r. ltb 2 (length (r .corners))) (d .routes) ≤ 2
+  -- 2026-04, in place of 'at most two cables have more than two': 'no cable has more than two corners'
+  pub bends : (i : ℕ) → i < m → length (routeAt d i .corners) ≤ 2

@@ -16,7 +16,7 @@ use Rattle.order.specs.StOrder.{Smallest}
 use Rattle.order.proofs.Bipolar.{Orderable}
 use Rattle.order.proofs.StOrder.{order-ordering, order-smallest}
 use Rattle.order.proofs.Ends.{parts-joined}
-use Rattle.order.proofs.Passed.{list-orderable, lines-most}
+use Rattle.order.proofs.Passed.{list-orderable, list-once, lines-most}
 use Rattle.drawing.specs.Drawing.{Drawing, routeAt, Meets, crossings}
 use Rattle.drawing.specs.Sheet.{sheetWords}
 use Rattle.drawing.specs.Reading.{Ends, noEnds, partsByRow, lengthsIn}
@@ -74,7 +74,7 @@ module _ (list : List ℕ) (pass : Clear allChecks list) where
       record {
         form = subst (λ (d : Drawing). Form st d sheet) (sym read-off) (form st orderable);
         meetings = subst (λ (d : Drawing). Meets d) (sym read-off) (meets st orderable);
-        sizes = subst (λ (d : Drawing). Sizes (st .parts) (length (st .cables)) d sheet) (sym read-off) (sizes st orderable);
+        sizes = subst (λ (d : Drawing). Sizes (st .parts) (length (st .cables)) d sheet) (sym read-off) (sizes st orderable (list-once list pass));
         lengths =
             subst (λ (d : Drawing). Measured (st .parts) (length (st .cables)) d (lengthsIn (st .parts) (length (st .cables)) sheet)) (sym read-off)
             (measured st orderable);

@@ -17,7 +17,7 @@ use Rattle.order.specs.Ends.{graphOf}
 use Rattle.order.proofs.Bipolar.{Orderable}
 use Rattle.order.proofs.StOrder.{order-ordering}
 use Rattle.order.proofs.Ranks.{order-ranked, graph-parts, graph-size, rank-below, part-of-rank, rank-of-part}
-use Rattle.order.proofs.Graphs.{cables-le}
+use Rattle.order.proofs.Graphs.{EndsOnce, cables-le}
 use Rattle.order.proofs.Ends.{lower-part, upper-part}
 use Rattle.drawing.specs.Drawing.{Drawing, pointsAt, Meets, crossings, renumbered}
 use Rattle.drawing.specs.Lengths.{lineLength, mostLength}
@@ -150,15 +150,16 @@ module _ (st : Station) where
     pub all-words : length (sheetWords (drawing st)) + st .parts ≡ 4 * length (st .cables) + 4 + bottomRows (graphOf st) + topRows (graphOf st)
     all-words = omega (arith, length-is, laid.words-count (graphOf st) R two, graph-parts st, graph-size st)
 
-    pub sizes : Sizes (st .parts) (length (st .cables)) (drawing st) (sheetWords (drawing st))
+    -- where the two lowest ranks, and the two highest, are joined once
+    pub sizes : EndsOnce (graphOf st) → Sizes (st .parts) (length (st .cables)) (drawing st) (sheetWords (drawing st))
     unfolding ranks
-    sizes =
+    sizes once =
         let G : StGraph = graphOf st in
         subst (λ (d : Drawing). Sizes (st .parts) (length (st .cables)) d (sheetWords d)) (sym is-renumbered)
         (subst (λ (m : ℕ). Sizes (st .parts) m (renumbered (order st) (layout G)) (sheetWords (renumbered (order st) (layout G)))) (ranks-all ∙ graph-size st)
         (subst (λ (n : ℕ). Sizes n (length ranks) (renumbered (order st) (layout G)) (sheetWords (renumbered (order st) (layout G)))) (graph-parts st)
         (sizes-renumbered (order st) (layout G) names (laid.meets G R) (G .parts) ranks (laid.fits G R two most) few
-        (subst (λ (m : ℕ). Sizes (G .parts) m (layout G) (sheetWords (layout G))) (sym ranks-all) (laid.sizes G R two most)))))
+        (subst (λ (m : ℕ). Sizes (G .parts) m (layout G) (sheetWords (layout G))) (sym ranks-all) (laid.sizes G R two most (omega (arith, graph-parts st, H .wired .least)) once)))))
 
     -- the lengths on the sheet
     length-most : (i : ℕ) → i < length (drawing st .routes) → lineLength (pointsAt (drawing st) i) ≤ mostLength (st .parts)

@@ -1,8 +1,9 @@
--- The eleven refusals, the boundaries, and stations A to D of document 01, with the lengths of request 2026-01 and the crossings of 2026-02, as the definitions give them. Assumes nothing.
+-- The eleven refusals, the boundaries, and stations A to D of document 01, with the lengths of request 2026-01, the crossings of 2026-02 and the
+-- corners of 2026-04, as the definitions give them. Assumes nothing.
 use Prim.Native.Nat.{ℕ}
 use mathlib.Core.Path.{_≡_, refl}
 use mathlib.Core.Bool.{true, false}
-use mathlib.Core.List.{List, [], _∷_}
+use mathlib.Core.List.{List, [], _∷_, map}
 use lib.ListN.{length}
 use lib.Dec.{eqb}
 use Rattle.lists.specs.Select.{count, sum}
@@ -84,17 +85,21 @@ pub record Table : Type 0 where
   d-corners : count (λ w. eqb (kindOf w) corner) (sheetWords (drawingOfList stationD)) ≡ 14
   d-words : length (sheetWords (drawingOfList stationD)) ≡ 41
   -- 2026-01
-  d-lengths : cableLengths (drawingOfList stationD) ≡ 3 ∷ 5 ∷ 7 ∷ 14 ∷ 2 ∷ 2 ∷ 5 ∷ 4 ∷ 3 ∷ 1 ∷ []
+  d-lengths : cableLengths (drawingOfList stationD) ≡ 6 ∷ 3 ∷ 3 ∷ 5 ∷ 5 ∷ 5 ∷ 7 ∷ 4 ∷ 4 ∷ 4 ∷ []
   d-total : sum (cableLengths (drawingOfList stationD)) ≡ 46
-  -- 2026-02: the crossings of A, B, C and D
+  -- 2026-02: the crossings of A, B and C; 2026-04: D has 'still 14 corners, and 5 crossings'
   a-crossings : crossings (drawingOfList triangle) ≡ 0
   b-crossings : crossings (drawingOfList square) ≡ 0
   c-crossings : crossings (drawingOfList stationC) ≡ 0
-  d-crossings : crossings (drawingOfList stationD) ≡ 4
+  d-crossings : crossings (drawingOfList stationD) ≡ 5
   -- 'those that share a part too': 2-3 and 2-4
   d-shared : crossPair (drawingOfList stationD) (routeAt (drawingOfList stationD) 7) (routeAt (drawingOfList stationD) 8) ≡ true
-  d-parts : drawingOfList stationD .parts ≡ spotAt 4 1 ∷ spotAt 2 2 ∷ spotAt 1 3 ∷ spotAt 2 4 ∷ spotAt 2 5 ∷ []
-  d-line-3 : routeAt (drawingOfList stationD) 3 .corners ≡ spotAt 4 0 ∷ spotAt 6 0 ∷ spotAt 6 6 ∷ spotAt 2 6 ∷ []
+  -- 2026-04: 'D then has its parts at (2,1), (5,2), (1,3), (2,4), (3,5)', and 'no cable has more than two corners'
+  d-parts : drawingOfList stationD .parts ≡ spotAt 2 1 ∷ spotAt 5 2 ∷ spotAt 1 3 ∷ spotAt 2 4 ∷ spotAt 3 5 ∷ []
+  d-bends : map (λ r. length (r .corners)) (drawingOfList stationD .routes) ≡ 2 ∷ 1 ∷ 0 ∷ 1 ∷ 2 ∷ 1 ∷ 2 ∷ 2 ∷ 1 ∷ 2 ∷ []
+  -- 0-1 leaves downward, 3-4 climbs over the top
+  d-line-0 : routeAt (drawingOfList stationD) 0 .corners ≡ spotAt 2 0 ∷ spotAt 5 0 ∷ []
+  d-line-9 : routeAt (drawingOfList stationD) 9 .corners ≡ spotAt 2 6 ∷ spotAt 3 6 ∷ []
   -- B, C and D pass every check: an output of their words takes them, and one of a word less does not
   b-drawn :
       outcome square 16
@@ -111,8 +116,8 @@ pub record Table : Type 0 where
   d-drawn :
       outcome stationD 41
       ≡ drawn
-      (0x40006006 ∷ 0x50004001 ∷ 0x50002002 ∷ 0x50001003 ∷ 0x50002004 ∷ 0x50002005 ∷ 0x60000001 ∷ 0x70002001 ∷ 0x60001001 ∷ 0x70004003 ∷ 0x60002002 ∷ 0x70005001 ∷ 0x70005004 ∷ 0x60003004 ∷ 0x70004000 ∷ 0x70006000 ∷ 0x70006006 ∷ 0x70002006 ∷ 0x60004001 ∷ 0x70001002 ∷ 0x60005000 ∷ 0x60006002 ∷ 0x70003002 ∷ 0x70003005 ∷ 0x60007002 ∷ 0x70000003 ∷ 0x70000004 ∷ 0x60008001 ∷ 0x70001005 ∷ 0x60009000 ∷ 0x80000003 ∷ 0x80001005 ∷ 0x80002007 ∷ 0x8000300e ∷ 0x80004002 ∷ 0x80005002 ∷ 0x80006005 ∷ 0x80007004 ∷ 0x80008003 ∷ 0x80009001 ∷ 0xa000002e ∷ [])
-      4
+      (0x40006006 ∷ 0x50002001 ∷ 0x50005002 ∷ 0x50001003 ∷ 0x50002004 ∷ 0x50003005 ∷ 0x60000002 ∷ 0x70002000 ∷ 0x70005000 ∷ 0x60001001 ∷ 0x70001001 ∷ 0x60002000 ∷ 0x60003001 ∷ 0x70003001 ∷ 0x60004002 ∷ 0x70004002 ∷ 0x70004003 ∷ 0x60005001 ∷ 0x70005004 ∷ 0x60006002 ∷ 0x70006002 ∷ 0x70006005 ∷ 0x60007002 ∷ 0x70000003 ∷ 0x70000004 ∷ 0x60008001 ∷ 0x70001005 ∷ 0x60009002 ∷ 0x70002006 ∷ 0x70003006 ∷ 0x80000006 ∷ 0x80001003 ∷ 0x80002003 ∷ 0x80003005 ∷ 0x80004005 ∷ 0x80005005 ∷ 0x80006007 ∷ 0x80007004 ∷ 0x80008004 ∷ 0x80009004 ∷ 0xa000002e ∷ [])
+      5
   d-short : outcome stationD 40 ≡ sentBack 11 41
 
 pub table : Table
@@ -150,7 +155,9 @@ table = record {
   d-crossings = refl;
   d-shared = refl;
   d-parts = refl;
-  d-line-3 = refl;
+  d-bends = refl;
+  d-line-0 = refl;
+  d-line-9 = refl;
   b-drawn = refl;
   b-short = refl;
   c-drawn = refl;

@@ -1,4 +1,4 @@
--- Demands 2 and 3, and requests 2026-01 and 2026-02, as claims about the words of a list and the words of its sheet. Assumes nothing.
+-- Demands 2 and 3, and requests 2026-01, 2026-02 and 2026-04, as claims about the words of a list and the words of its sheet. Assumes nothing.
 use Prim.Native.Nat.{ℕ, _+_, _<_}
 use mathlib.Core.Path.{_≡_}
 use mathlib.Core.Logic.{_⊎_}

@@ -5,15 +5,14 @@ use mathlib.Core.Path.{_≡_, refl, sym, ap, ap₂, subst, subst₂, _∙_}
 use mathlib.Core.Logic.{_⊎_, ⊎-elim}
 use mathlib.Core.List.{List, [], _∷_, _++_, List·Memᴰ, List·Memᴰ·head, List·Memᴰ·tail, Memᴰ·append-left}
 use lib.ListN.{length, getD}
-use lib.Dec.{ltb}
 use Rattle.words.specs.Limits.{mostParts}
-use Rattle.lists.specs.Select.{range, tabulate, count, sum}
+use Rattle.lists.specs.Select.{tabulate, count, sum}
 use Rattle.lists.proofs.Select.{getD-mem, getD-tabulate, length-tabulate}
 use Rattle.lists.proofs.Places.{mem-place, first-between-last}
-use Rattle.lists.proofs.Maps.{map-tabulate, count-tabulate}
+use Rattle.lists.proofs.Maps.{map-tabulate}
 use Rattle.lists.proofs.Sums.{sum-le}
 use Rattle.order.specs.Graph.{StGraph, size, lower, upper, Ranked}
-use Rattle.order.proofs.Graphs.{lower-inside, cables-le}
+use Rattle.order.proofs.Graphs.{EndsOnce, lower-inside, cables-le}
 use Rattle.drawing.specs.Spots.{Spot, origin}
 use Rattle.drawing.specs.Lines.{point, Meetings}
 use Rattle.drawing.specs.Crossing.{linesCross}
@@ -38,7 +37,7 @@ use Rattle.layout.proofs.ExtraRows.{bottomRows-le, topRows-le}
 use Rattle.layout.proofs.Placed.{facts}
 use Rattle.layout.proofs.Meet.{meetings}
 use Rattle.layout.proofs.Cross.{linesCross-courses}
-use Rattle.layout.proofs.Sizes.{part-column-below, rising, corners-four, corners-many-count, spots-within, points-within, columns-count, corners-sum, width-spot, height-spot}
+use Rattle.layout.proofs.Sizes.{part-column-below, rising, corners-four, corners-two, spots-within, points-within, columns-count, corners-sum, width-spot, height-spot}
 use Rattle.layout.proofs.LineLengths.{line-most}
 
 -- on plain numbers: the count of columns is one more than the width, the count of rows one more than the height
@@ -78,10 +77,6 @@ module _ (G : StGraph) where
   -- the corners of all routes
   corner-count : cornerCount (layout G .routes) ≡ sum (tabulate (size G) (λ i. length (cornersOf (courseOf G i))))
   corner-count = ap cornerCount routes-are ∙ ap sum (map-tabulate (λ (r : Route). length (r .corners)) (size G) routeOf)
-
-  bends-count : count (λ r. ltb 2 (length (r .corners))) (layout G .routes) ≡ count (λ i. ltb 2 (length (cornersOf (courseOf G i)))) (range (size G))
-  bends-count =
-      ap (count (λ (r : Route). ltb 2 (length (r .corners)))) routes-are ∙ count-tabulate (λ (r : Route). ltb 2 (length (r .corners))) (size G) routeOf
 
 module _ (G : StGraph) (R : Ranked G) where
   abbrev line : ℕ → List Spot
@@ -304,8 +299,8 @@ module _ (G : StGraph) (R : Ranked G) where
       corner-words =
           omega (arith, words-corners (G .parts) (tabulate (size G) (endsOf G)) (layout G) fits (omega (arith, ends-length, few-lines)), corner-count G, corners-sum G R two)
 
-      pub sizes : Sizes (G .parts) (size G) (layout G) (sheetWords (layout G))
-      sizes = record {
+      pub sizes : 3 ≤ G .parts → EndsOnce G → Sizes (G .parts) (size G) (layout G) (sheetWords (layout G))
+      sizes three O = record {
         x-most = λ i k h. subst (λ (l : List Spot). k < length l → point l k .x ≤ layout G .width) (points-at i h) (λ g. inside i k h g .0);
         x-reached = let r = reached (λ s. suc (s .x) ≡ columns G (G .parts) .count) (width-spot G R two) in (r .0, r .1, r .2, r .3, omega (arith, r .4, width-is));
         y-most = λ i k h. subst (λ (l : List Spot). k < length l → point l k .y ≤ layout G .height) (points-at i h) (λ g. inside i k h g .1);
@@ -315,5 +310,5 @@ module _ (G : StGraph) (R : Ranked G) where
         width = omega (arith, width-is, columns-count G R two);
         height = omega (arith, height-is, bottomRows-le G R, topRows-le G R);
         corners = omega (arith, corner-words, bottomRows-le G R, topRows-le G R);
-        bends = omega (arith, bends-count G, corners-many-count G R);
+        bends = λ i h. omega (arith, ap length (corners-at i h), corners-two G R three O i h);
       }

@@ -122,7 +122,7 @@ module _ (G : StGraph) where
     pub outs-ins : outs k + ins k ≤ 4
     outs-ins = omega (arith, degree G R k)
 
-    pub table : Ports (ins k) (outs k) (lefts k) (rights k)
+    table : Ports (ins k) (outs k) (lefts k) (rights k)
     table = step.ports G R k
 
     entered : 0 < k → 0 < ins k

@@ -28,23 +28,22 @@ use Rattle.layout.proofs.Insertion.{lines-held}
 use Rattle.layout.proofs.Lengths.{rank-read}
 use Rattle.layout.proofs.Step.{length-parts}
 use Rattle.layout.proofs.Connections.{bottom-fourth, bottom-rows, top-fourth, top-rows}
-use Rattle.layout.proofs.Standing.{four-out, four-in}
 
 -- The ends
 
 module _ {G : StGraph} (R : Ranked G) where
   pub bottom-reads : {f : Incident} {m r k : ℕ} → k ≡ 0 → Holds (upper G) f (outgoing G k) → m ≡ size G → r ≡ getD (linesIn f) 3 m → r ≡ bottomLine G
-  bottom-reads z h e q = q ∙ rw (lines-held (upper G) h, e, z) (bottom-fourth G (four-out R 0))
+  bottom-reads z h e q = q ∙ rw (lines-held (upper G) h, e, z) (bottom-fourth G R)
 
-  pub top-reads : {f : Incident} {m r k : ℕ} (xs : List ℕ) → k ≡ G .parts - 1 → Holds (at xs) f (incoming G xs k) → m ≡ size G → r ≡ getD (linesIn f) 3 m → r ≡ topLine G xs
-  top-reads xs z h e q = q ∙ rw (lines-held (at xs) h, e, z) (top-fourth G xs (four-in R (G .parts - 1)))
+  pub top-reads : {f : Incident} {m r k : ℕ} (xs : List ℕ) → k ≡ G .parts - 1 → Holds (at xs) f (incoming G xs k) → m ≡ size G → r ≡ getD (linesIn f) 3 m → r ≡ topLine G
+  top-reads xs z h e q = q ∙ rw (lines-held (at xs) h, e, z) (top-fourth G R xs)
 
   pub ends-read :
-      {e : Ends} {m : ℕ} → m ≡ size G → e .«bottom_line» ≡ bottomLine G → e .«top_line» ≡ topLine G (columns G (G .parts) .cables)
+      {e : Ends} {m : ℕ} → m ≡ size G → e .«bottom_line» ≡ bottomLine G → e .«top_line» ≡ topLine G
       → e .«bottom_rows» ≡ oneIf (ltb (e .«bottom_line») m) → e .«top_rows» ≡ oneIf (ltb (e .«top_line») m) → EndsOf G e
   ends-read q b t d r = record {
-    bottom-rows = d ∙ rw (b, q) (sym (bottom-rows G (four-out R 0)));
-    top-rows = r ∙ rw (t, q) (sym (top-rows G (columns G (G .parts) .cables) (four-in R (G .parts - 1))));
+    bottom-rows = d ∙ rw (b, q) (sym (bottom-rows G R));
+    top-rows = r ∙ rw (t, q) (sym (top-rows G R));
     bottom-line = b;
     top-line = t;
   }

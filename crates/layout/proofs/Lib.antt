@@ -2,6 +2,7 @@
 -- and what the code rests on (Connections to Lanes).
 pub mod Facts
 pub mod Ports
+pub mod EndLines
 pub mod Step
 pub mod Moved
 pub mod Invariant

@@ -16,7 +16,8 @@ use Rattle.drawing.proofs.Lengths.{steps-none, steps-back, steps-up, steps-most
 use Rattle.layout.specs.Columns.{bottomLine, topLine, columns}
 use Rattle.layout.specs.Points.{Course, turns, dropRepeats, pointsOf, row, partSpot, course, rankSpot, courseOf}
 use Rattle.layout.proofs.Turns.{repeats-first}
-use Rattle.layout.proofs.ExtraRows.{bottomRows-le, topRows-le, bottom-place, top-place}
+use Rattle.layout.proofs.EndLines.{bottom-ends, top-ends}
+use Rattle.layout.proofs.ExtraRows.{bottomRows-le, topRows-le}
 use Rattle.layout.proofs.Sizes.{cable-column-below, rising, high-below, spots-within, columns-count}
 
 -- Points that repeat the one before them add nothing.
@@ -93,19 +94,18 @@ module _ (G : StGraph) (R : Ranked G) where
   from-step i h =
       lane-step (eqb i (bottomLine G)) 0 (row G (lower G i)) λ e.
       let q : i ≡ bottomLine G = eqb-true i (bottomLine G) e in
-      let z : lower G i ≡ 0 = ap (lower G) q ∙ bottom-place G R (omega arith) .0 in
+      let z : lower G i ≡ 0 = ap (lower G) q ∙ bottom-ends G (omega arith) .1 in
       steps-most (row G (lower G i)) 0 1 (omega (arith, bottomRows-le G R)) (omega arith)
 
   to-step : (i : ℕ) → i < size G → steps (courseOf G i .high) (courseOf G i .to .y) ≤ 1
   unfolding courseOf course partSpot row
   to-step i h =
-      let xs : List ℕ = columns G (G .parts) .cables in
       omega (
         arith,
         steps-back (courseOf G i .high) (courseOf G i .to .y),
-        lane-step (eqb i (topLine G xs)) (row G (G .parts)) (row G (upper G i)) (λ e.
-            let q : i ≡ topLine G xs = eqb-true i (topLine G xs) e in
-            let z : upper G i ≡ G .parts - 1 = ap (upper G) q ∙ top-place G R xs (omega arith) .0 in
+        lane-step (eqb i (topLine G)) (row G (G .parts)) (row G (upper G i)) (λ e.
+            let q : i ≡ topLine G = eqb-true i (topLine G) e in
+            let z : upper G i ≡ G .parts - 1 = ap (upper G) q ∙ top-ends G (omega arith) .2 in
             omega (arith, steps-up (row G (upper G i)) (row G (G .parts)) (omega (arith, R .inside i h)))),
       )
 

@@ -161,6 +161,20 @@ module _ (G : StGraph) (H : Ranked G) where
         only = λ i u e q. upper-own-all i u .0 (eqb-true _ _ q) ∙ ap takenCable (omega (arith, H .rises i u));
       }
 
+  -- so a rank's only outgoing cable stands in its column, and its only incoming one
+
+  pub only-out : (i : ℕ) → i < size G → ((j : ℕ) → j < size G → lower G j ≡ lower G i → i ≡ j) → cable G (G .parts) i ≡ part G (G .parts) (lower G i)
+  unfolding ownLower
+  only-out i h one =
+      let o = one-lower (lower G i) (omega (arith, H .rises i h, H .inside i h)) in
+      eqb-true _ _ (ap ownLower (one (o .one) (o .below) (o .keyed)) ∙ o .passes)
+
+  pub only-in : (i : ℕ) → i < size G → ((j : ℕ) → j < size G → upper G j ≡ upper G i → i ≡ j) → cable G (G .parts) i ≡ part G (G .parts) (upper G i)
+  unfolding ownUpper
+  only-in i h one =
+      let o = one-upper (upper G i - 1) (omega (arith, H .rises i h, H .inside i h)) in
+      eqb-true _ _ (ap ownUpper (one (o .one) (o .below) (omega (arith, o .keyed, H .rises i h, H .rises (o .one) (o .below)))) ∙ o .passes)
+
   pub lower-owns : 0 < G .parts → count (λ i. eqb (cable G (G .parts) i) (part G (G .parts) (lower G i))) (range (size G)) + 1 ≡ G .parts
   unfolding ownLower
   lower-owns h =

@@ -6,24 +6,19 @@ use native.Mathlib.Decide.{decLt, ℕ-discrete}
 use mathlib.Core.Path.{_≡_, refl, sym, ap, ap₂, _∙_}
 use mathlib.Core.Logic.{_⊎_, inl, inr}
 use mathlib.Core.Bool.{cond}
-use mathlib.Core.List.{List}
-use lib.ListN.{length}
-use lib.Seq.{ext-getD}
 use lib.Dec.{eqb}
 use borrow.Author.Tests.{eq-eqb, ne-eqb}
 use Rattle.lists.specs.Select.{indexOf}
-use Rattle.lists.proofs.Select.{getD-mem}
 use Rattle.order.specs.Graph.{StGraph, size, lower, upper, Ranked}
 use Rattle.order.proofs.Graphs.{lower-inside}
 use Rattle.layout.specs.Columns.{bottomLine, topLine, outgoing, incoming, columns}
 use Rattle.layout.specs.Points as points
 use Rattle.layout.specs.Points.{partSpot, course, rankSpot, courseOf}
 use Rattle.layout.proofs.Facts.{Facts}
-use Rattle.layout.proofs.Moved.{moved-none}
-use Rattle.layout.proofs.Step.{cable-kept, length-cables, outgoing-e, outPlace-below, outPlace-one, inPlace-below, inPlace-one}
+use Rattle.layout.proofs.Step.{outPlace-below, outPlace-one, inPlace-below, inPlace-one}
 use Rattle.layout.proofs.Step as step
 use Rattle.layout.proofs.ExtraRows.{bottom-row, bottom-place, place-bottom, top-place, place-top}
-use Rattle.layout.proofs.Invariant.{Leaves, Enters, Meets, Passes, by, bottom, top, Invariant, invariant, outs-ins, table, fourth}
+use Rattle.layout.proofs.Invariant.{Leaves, Enters, Meets, Passes, by, bottom, top, Invariant, invariant, outs-ins, fourth}
 
 -- what a test of equality picks
 pick : (a b u v : ℕ) → ((a ≡ b) × (cond (eqb a b) u v ≡ u)) ⊎ ((a ≡ b → ⊥) × (cond (eqb a b) u v ≡ v))
@@ -96,38 +91,6 @@ module _ (G : StGraph) where
             dips e (ap₂ outPlace e (c .0) ∙ p .1) (omega (arith, bottom-row G R b, c .1))
         go (inr c) = leaves (leaves-three i h (c .0)) (c .1)
 
-    -- Rank k, the last, opens no cable and moves none, so its incoming cables come in the sequence of the finished columns
-
-    module _ (k : ℕ) (last : suc k ≡ G .parts) where
-      last-outs : step.outs G k ≡ 0
-      unfolding step.outs
-      last-outs = go (decLt 0 (length (outgoing G k)))
-        where
-          go : Dec (0 < length (outgoing G k)) → length (outgoing G k) ≡ 0
-          go (yes h) =
-              let o = outgoing-e G k (getD-mem (outgoing G k) 0 0 h) in
-              absurd (omega (arith, o .1, R .rises _ (o .0), R .inside _ (o .0)))
-          go (no h) = omega arith
-
-      last-cable : (i : ℕ) → i < size G → step.cable G (suc k) i ≡ step.cable G k i
-      last-cable i h =
-          let t = table G R k (omega arith) .none last-outs in
-          cable-kept G k i h (omega (arith, R .rises i h, R .inside i h))
-          ∙ moved-none (step.takenColumn G k) (step.lefts G k) (step.rights G k) (step.cable G k i) (t .0) (t .1)
-
-      last-cables : columns G (suc k) .cables ≡ columns G k .cables
-      unfolding step.cable
-      last-cables =
-          ext-getD 0 (columns G (suc k) .cables) (columns G k .cables)
-          (length-cables G (suc k) ∙ sym (length-cables G k))
-          (λ i h. last-cable i (omega (arith, length-cables G (suc k))))
-
-      last-place : (i : ℕ) → indexOf i (incoming G (columns G (G .parts) .cables) (G .parts - 1)) ≡ inPlace k i
-      unfolding step.inPlace
-      last-place i =
-          let e : G .parts - 1 ≡ k = omega arith in
-          ap₂ (λ (xs : List ℕ) (r : ℕ). indexOf i (incoming G xs r)) (ap (λ (r : ℕ). columns G r .cables) (sym last) ∙ last-cables) e
-
     enters-three : (i : ℕ) → i < size G → (suc (upper G i) ≡ G .parts → inPlace (upper G i) i ≡ 3 → ⊥) → inPlace (upper G i) i < 3
     enters-three i h d = go (ℕ-discrete (suc (upper G i)) (G .parts))
       where
@@ -143,19 +106,21 @@ module _ (G : StGraph) where
             omega (arith, inPlace-below G (upper G i) i h refl, four, outPlace-below G (upper G i) (c .0) (c .1) (c .2))
 
     pub high-of : (i : ℕ) → i < size G → High i
-    unfolding courseOf course
-    high-of i h = go (pick i (topLine G (columns G (G .parts) .cables)) (row (G .parts)) (row (upper G i)))
+    unfolding courseOf course step.inPlace
+    high-of i h = go (pick i (topLine G) (row (G .parts)) (row (upper G i)))
       where
-        xs : List ℕ
-        xs = columns G (G .parts) .cables
+        last-place : (j : ℕ) → suc (upper G i) ≡ G .parts → indexOf j (incoming G (columns G (upper G i) .cables) (G .parts - 1)) ≡ inPlace (upper G i) j
+        last-place j e =
+            let q : G .parts - 1 ≡ upper G i = omega arith in
+            ap (λ (r : ℕ). indexOf j (incoming G (columns G (upper G i) .cables) r)) q
 
-        go : ((i ≡ topLine G xs) × (high i ≡ row (G .parts))) ⊎ ((i ≡ topLine G xs → ⊥) × (high i ≡ row (upper G i))) → High i
+        go : ((i ≡ topLine G) × (high i ≡ row (G .parts))) ⊎ ((i ≡ topLine G → ⊥) × (high i ≡ row (upper G i))) → High i
         go (inl c) =
-            let p = top-place G R xs (omega arith) in
+            let p = top-place G R (columns G (upper G i) .cables) (omega arith) in
             let f : upper G i ≡ G .parts - 1 = ap (upper G) (c .0) ∙ p .0 in
             let e : suc (upper G i) ≡ G .parts = omega (arith, R .inside i h) in
-            climbs e (sym (last-place (upper G i) e i) ∙ ap (λ (j : ℕ). indexOf j (incoming G xs (G .parts - 1))) (c .0) ∙ p .1) (c .1)
-        go (inr c) = enters (enters-three i h (λ e q. c .0 (place-top G R xs i h (omega arith) (last-place (upper G i) e i ∙ q)))) (c .1)
+            climbs e (ap (inPlace (upper G i)) (c .0) ∙ sym (last-place (topLine G) e) ∙ p .1) (c .1)
+        go (inr c) = enters (enters-three i h (λ e q. c .0 (place-top G R (columns G (upper G i) .cables) i h (omega arith) (last-place i e ∙ q)))) (c .1)
 
     -- What the lanes say of ranks
 

@@ -1,27 +1,30 @@
 -- Document 01: 'The sheet has m - n + 1 as width, n - 1 + d + e as height, 2m - 2n + 2 + d + e corners', of the definition, for every ranked input;
--- and of corners, at most four a cable, and more than two at no more than two cables. Assumes nothing.
+-- and of corners, at most four a cable, and at most two where the two lowest ranks, and the two highest, are joined once (2026-04; source 000, lemma 3.4).
+-- Assumes nothing.
 use Prim.Native.Nat.{ℕ, zero, suc, _+_, _-_, _*_, _<_, _≤_}
 use mathlib.Core.Path.{_≡_, refl, sym, _∙_, ap, subst}
 use mathlib.Core.Logic.{_⊎_, inl, inr}
 use mathlib.Core.Bool.{Bool, true, false, cond, not}
 use mathlib.Core.List.{List, [], _∷_, _++_, List·Memᴰ, List·Memᴰ·head, List·Memᴰ·tail, List·Memᴰ·cases-cons, List·Memᴰ·append-cases, List·Memᴰ·eq-of-singleton}
 use native.Mathlib.Omega.{arith}
-use native.Mathlib.Decide.{decLt, ℕ-discrete}
-use lib.Dec.{eqb, ltb}
+use native.Mathlib.Decide.{ℕ-discrete}
+use lib.Dec.{eqb}
 use lib.ListN.{length, getD}
-use borrow.Author.Tests.{eqb-true, eq-eqb, lt-ltb, le-ltb}
+use borrow.Author.Tests.{eqb-true, eq-eqb, ne-eqb}
 use Rattle.lists.specs.Select.{range, tabulate, count, sum, oneIf}
 use Rattle.lists.proofs.Tests.{oneIf-le}
-use Rattle.lists.proofs.Sums.{count-not, count-either, sum-ext, sum-add, sum-oneIf}
+use Rattle.lists.proofs.Sums.{count-not, sum-ext, sum-add, sum-oneIf}
 use Rattle.order.specs.Graph.{StGraph, size, lower, upper, Ranked}
+use Rattle.order.proofs.Graphs.{EndsOnce}
 use Rattle.layout.specs.Columns.{bottomLine, topLine, columns}
 use Rattle.drawing.specs.Spots.{Spot}
 use Rattle.layout.specs.Points.{Course, turns, pointsOf, cornersOf, bottomRows, topRows, row, partSpot, course, rankSpot, courseOf}
+use Rattle.layout.proofs.EndLines.{bottom-ends, top-ends}
 use Rattle.layout.proofs.Step.{cable, part, width}
 use Rattle.layout.proofs.Width.{width-all, cable-below, part-below, reached}
-use Rattle.layout.proofs.Own.{lower-owns, upper-owns}
+use Rattle.layout.proofs.Own.{only-out, only-in, lower-owns, upper-owns}
 use Rattle.layout.proofs.Turns.{differs, points-all, points-split, turns-points, length-corners}
-use Rattle.layout.proofs.ExtraRows.{bottom-count, top-count, bottom-row, top-row, top-some, bottomRows-le, topRows-le, differs-lane}
+use Rattle.layout.proofs.ExtraRows.{bottom-count, top-count, bottom-row, top-row, row-top, topRows-le, differs-lane}
 
 -- On plain numbers and tests
 
@@ -33,12 +36,11 @@ lane-ge : (b : Bool) (u r : ℕ) → r ≤ u → r ≤ cond b u r
 lane-ge true u r h = h
 lane-ge false u r h = omega arith
 
-over-two : (c s : ℕ) → c ≤ 2 + s → oneIf (ltb 2 c) ≤ s
-over-two c s h = go (decLt 2 c)
-  where
-    go : Dec (2 < c) → oneIf (ltb 2 c) ≤ s
-    go (yes l) = rw (lt-ltb 2 c l) (omega arith)
-    go (no l) = rw (le-ltb 2 c (omega arith)) (omega arith)
+differs-le : (u v : ℕ) → differs u v ≤ 1
+differs-le u v = oneIf-le (not (eqb u v))
+
+differs-none : (u v : ℕ) → u ≡ v → differs u v ≡ 0
+differs-none u v e = rw (eq-eqb u v e) refl
 
 four-counts :
     (p q b t : ℕ → Bool) (m : ℕ)
@@ -80,7 +82,7 @@ module _ (G : StGraph) (H : Ranked G) where
 
   high-ge : (i : ℕ) → i < size G → row G (upper G i) ≤ courseOf G i .high
   unfolding courseOf course row
-  high-ge i h = lane-ge (eqb i (topLine G (columns G (G .parts) .cables))) (row G (G .parts)) (row G (upper G i)) (omega (arith, H .inside i h))
+  high-ge i h = lane-ge (eqb i (topLine G)) (row G (G .parts)) (row G (upper G i)) (omega (arith, H .inside i h))
 
   pub rising : (i : ℕ) → i < size G → courseOf G i .low < courseOf G i .high
   unfolding row
@@ -94,37 +96,69 @@ module _ (G : StGraph) (H : Ranked G) where
       ≡ differs (getD (columns G (G .parts) .cables) i 0) (getD (columns G (G .parts) .parts) (lower G i) 0)
       + differs (getD (columns G (G .parts) .cables) i 0) (getD (columns G (G .parts) .parts) (upper G i) 0)
       + oneIf (eqb i (bottomLine G))
-      + oneIf (eqb i (topLine G (columns G (G .parts) .cables)))
+      + oneIf (eqb i (topLine G))
   unfolding courseOf course partSpot row
   corners-one i h =
       let b = differs-lane (eqb i (bottomLine G)) 0 (row G (lower G i)) (λ e q. omega (arith, bottom-row G H (omega (arith, eqb-true i (bottomLine G) e)))) in
-      let t = differs-lane (eqb i (topLine G (columns G (G .parts) .cables))) (row G (G .parts)) (row G (upper G i)) (λ e q. omega (arith, H .inside i h)) in
+      let t = differs-lane (eqb i (topLine G)) (row G (G .parts)) (row G (upper G i)) (λ e q. omega (arith, H .inside i h)) in
       omega (arith, length-corners (courseOf G i) (λ e. omega (arith, rising i h)), b, t)
-
-  corners-le :
-      (i : ℕ) → i < size G
-      → length (cornersOf (courseOf G i)) ≤ 2 + (oneIf (eqb i (bottomLine G)) + oneIf (eqb i (topLine G (columns G (G .parts) .cables))))
-  corners-le i h =
-      let u = oneIf-le (not (eqb (getD (columns G (G .parts) .cables) i 0) (getD (columns G (G .parts) .parts) (lower G i) 0))) in
-      let v = oneIf-le (not (eqb (getD (columns G (G .parts) .cables) i 0) (getD (columns G (G .parts) .parts) (upper G i) 0))) in
-      omega (arith, corners-one i h)
 
   pub corners-four : (i : ℕ) → i < size G → length (cornersOf (courseOf G i)) ≤ 4
   corners-four i h =
-      omega (arith, corners-le i h, oneIf-le (eqb i (bottomLine G)), oneIf-le (eqb i (topLine G (columns G (G .parts) .cables))))
-
-  -- at most two cables have more than two corners
-  pub corners-many-count : count (λ i. ltb 2 (length (cornersOf (courseOf G i)))) (range (size G)) ≤ 2
-  corners-many-count =
       omega (
         arith,
-        count-either (λ i. ltb 2 (length (cornersOf (courseOf G i)))) (λ i. eqb i (bottomLine G)) (λ i. eqb i (topLine G (columns G (G .parts) .cables))) (size G)
-            (λ i h. over-two (length (cornersOf (courseOf G i))) _ (corners-le i h)),
-        bottom-count G H,
-        top-count G H (columns G (G .parts) .cables),
-        bottomRows-le G H,
-        topRows-le G H,
+        corners-one i h,
+        differs-le (getD (columns G (G .parts) .cables) i 0) (getD (columns G (G .parts) .parts) (lower G i) 0),
+        differs-le (getD (columns G (G .parts) .cables) i 0) (getD (columns G (G .parts) .parts) (upper G i) 0),
+        oneIf-le (eqb i (bottomLine G)),
+        oneIf-le (eqb i (topLine G)),
       )
+
+  -- 'no cable has more than two corners'
+  module _ (three : 3 ≤ G .parts) (O : EndsOnce G) (i : ℕ) (h : i < size G) where
+    abbrev x : ℕ
+    x = getD (columns G (G .parts) .cables) i 0
+
+    abbrev at : ℕ → ℕ
+    at k = getD (columns G (G .parts) .parts) k 0
+
+    -- rank 1 has one incoming cable and stands in its column, so that the bottom connection turns in row 0 alone
+    bottom-straight : i ≡ bottomLine G → (upper G i ≡ 1) × (differs x (at (upper G i)) ≡ 0)
+    unfolding cable part
+    bottom-straight e =
+        let b = bottom-ends G (omega arith) in
+        let l : lower G i ≡ 0 = ap (lower G) e ∙ b .1 in
+        let u : upper G i ≡ 1 = ap (upper G) e ∙ b .2 in
+        (u, differs-none x (at (upper G i)) (only-in G H i h (λ j g q. O .lowest i j h g l u (omega (arith, H .rises j g)) (q ∙ u))))
+
+    -- rank n - 2 has one outgoing cable, which keeps its column, so that the top connection turns in the top row alone
+    top-straight : i ≡ topLine G → (suc (upper G i) ≡ G .parts) × (differs x (at (lower G i)) ≡ 0)
+    unfolding cable part
+    top-straight e =
+        let t = top-ends G (omega arith) in
+        let l : lower G i ≡ G .parts - 2 = ap (lower G) e ∙ t .1 in
+        let u : upper G i ≡ G .parts - 1 = ap (upper G) e ∙ t .2 in (
+          omega arith,
+          differs-none x (at (lower G i)) (only-out G H i h (λ j g q. O .highest i j h g l u (q ∙ l) (omega (arith, H .rises j g, H .inside j g)))),
+        )
+
+    pub corners-two : length (cornersOf (courseOf G i)) ≤ 2
+    corners-two = go (ℕ-discrete i (bottomLine G)) (ℕ-discrete i (topLine G))
+      where
+        c : length (cornersOf (courseOf G i)) ≡ differs x (at (lower G i)) + differs x (at (upper G i)) + oneIf (eqb i (bottomLine G)) + oneIf (eqb i (topLine G))
+        c = corners-one i h
+
+        l : differs x (at (lower G i)) ≤ 1
+        l = differs-le x (at (lower G i))
+
+        u : differs x (at (upper G i)) ≤ 1
+        u = differs-le x (at (upper G i))
+
+        go : Dec (i ≡ bottomLine G) → Dec (i ≡ topLine G) → length (cornersOf (courseOf G i)) ≤ 2
+        go (yes e) (yes f) = absurd (omega (arith, bottom-straight e .0, top-straight f .0))
+        go (yes e) (no f) = omega (arith, c, l, bottom-straight e .1, oneIf-le (eqb i (bottomLine G)), ap oneIf (ne-eqb i (topLine G) f))
+        go (no e) (yes f) = omega (arith, c, u, top-straight f .1, oneIf-le (eqb i (topLine G)), ap oneIf (ne-eqb i (bottomLine G) e))
+        go (no e) (no f) = omega (arith, c, l, u, ap oneIf (ne-eqb i (bottomLine G) e), ap oneIf (ne-eqb i (topLine G) f))
 
   -- Every spot is inside the sheet.
 
@@ -139,12 +173,12 @@ module _ (G : StGraph) (H : Ranked G) where
 
   pub high-below : (i : ℕ) → i < size G → courseOf G i .high < G .parts + bottomRows G + topRows G
   unfolding courseOf course row
-  high-below i h = go (eqb i (topLine G (columns G (G .parts) .cables))) refl
+  high-below i h = go (eqb i (topLine G)) refl
     where
       go :
-          (b : Bool) → eqb i (topLine G (columns G (G .parts) .cables)) ≡ b
+          (b : Bool) → eqb i (topLine G) ≡ b
           → cond b (row G (G .parts)) (row G (upper G i)) < G .parts + bottomRows G + topRows G
-      go true e = omega (arith, top-row G H (columns G (G .parts) .cables) (omega (arith, eqb-true i (topLine G (columns G (G .parts) .cables)) e)))
+      go true e = omega (arith, top-row G H (omega (arith, eqb-true i (topLine G) e)))
       go false e = omega (arith, H .inside i h)
 
   pub points-within :
@@ -211,7 +245,7 @@ module _ (G : StGraph) (H : Ranked G) where
         let p : ℕ → Bool = λ i. eqb (x i) (getD (columns G (G .parts) .parts) (lower G i) 0) in
         let q : ℕ → Bool = λ i. eqb (x i) (getD (columns G (G .parts) .parts) (upper G i) 0) in
         let b : ℕ → Bool = λ i. eqb i (bottomLine G) in
-        let t : ℕ → Bool = λ i. eqb i (topLine G (columns G (G .parts) .cables)) in
+        let t : ℕ → Bool = λ i. eqb i (topLine G) in
         let e : sum (tabulate (size G) (λ i. length (cornersOf (courseOf G i)))) ≡ sum (tabulate (size G) (λ i. oneIf (not (p i)) + oneIf (not (q i)) + oneIf (b i) + oneIf (t i))) = sum-ext _ _ (size G) corners-one in
         omega (
           arith,
@@ -222,7 +256,7 @@ module _ (G : StGraph) (H : Ranked G) where
           lower-count,
           upper-count,
           bottom-count G H,
-          top-count G H (columns G (G .parts) .cables),
+          top-count G H,
         )
 
     -- the greatest x and the greatest y are those of a part or of a corner
@@ -243,8 +277,8 @@ module _ (G : StGraph) (H : Ranked G) where
       where
         go : Dec (topRows G ≡ 1) → Found (λ s. suc (s .y)) (G .parts + bottomRows G + topRows G)
         go (yes e) =
-            let i : ℕ = topLine G (columns G (G .parts) .cables) in
+            let i : ℕ = topLine G in
             let c : Course = courseOf G i in
-            found (λ s. suc (s .y)) _ i (record { x = c .column; y = c .high }) (top-some G H (columns G (G .parts) .cables) e)
+            found (λ s. suc (s .y)) _ i (record { x = c .column; y = c .high }) (row-top G H e)
             (List·Memᴰ·tail (List·Memᴰ·tail (List·Memᴰ·tail (List·Memᴰ·head refl)))) (rw (eq-eqb i i refl) (omega arith))
         go (no e) = inl (G .parts - 1, omega arith, omega (arith, topRows-le G H))

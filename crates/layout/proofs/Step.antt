@@ -7,39 +7,17 @@ use mathlib.Core.Path.{_≡_, refl, sym, ap, _∙_}
 use mathlib.Core.List.{List, [], _∷_, _++_, map, List·Memᴰ}
 use lib.ListN.{length, getD, length-append, length-map, length-replicate, getD-replicate, List·getD-append, List·getD-eq-default}
 use lib.Seq.{getD-at}
-use lib.Dec.{eqb}
-use borrow.Author.Tests.{eqb-true, eq-eqb, ne-eqb}
-use Rattle.lists.specs.Select.{range, without, indexOf, sortBy}
-use Rattle.lists.proofs.Select.{getD-tabulate, length-tabulate, getD-map, getD-mem, filter-e, filter-i, range-e, range-i, Distinct, distinct-range, distinct-filter, distinct-places, indexOf-below, getD-indexOf, indexOf-one}
+use borrow.Author.Tests.{eq-eqb, ne-eqb}
+use Rattle.lists.specs.Select.{without, indexOf, sortBy}
+use Rattle.lists.proofs.Select.{getD-tabulate, length-tabulate, getD-map, getD-mem, Distinct, distinct-places, indexOf-below, getD-indexOf, indexOf-one}
 use Rattle.lists.proofs.Filters.{without-absent}
 use Rattle.lists.proofs.Lastly.{lastly-e, lastly-i, length-lastly, distinct-lastly, lastly-last, lastly-rises, without-most}
 use Rattle.lists.proofs.Sort.{sortBy-e, sortBy-i, length-sortBy, distinct-sortBy, rising-sortBy}
 use Rattle.order.specs.Graph.{StGraph, size, lower, upper, linesAt, Ranked}
 use Rattle.layout.specs.Ports.{inPorts, outPorts, placeBelow, newLeft, newRight, portColumn}
-use Rattle.layout.specs.Columns.{moved, bottomLine, topLine, outgoing, incoming, taken, step, columns}
+use Rattle.layout.specs.Columns.{moved, bottomLine, topLine, byRank, byColumn, outgoing, incoming, taken, step, columns}
 use Rattle.layout.proofs.Ports.{Ports, shown, port-column}
-
--- The fourth of a list that has one: what stands there is not the default
-fourth-there : (l : List ℕ) (d m : ℕ) → length l ≡ m → getD l 3 d < d → 3 < m
-fourth-there l d m e h = go (decLt 3 (length l))
-  where
-    go : Dec (3 < length l) → 3 < m
-    go (yes g) = omega arith
-    go (no g) = absurd (omega (arith, List·getD-eq-default l d {n = 3} (omega arith)))
-
--- The lines at a rank
-
-pub linesAt-e : {i : ℕ} (m : ℕ) (rank : ℕ → ℕ) (k : ℕ) → List·Memᴰ i (linesAt m rank k) → (i < m) × (rank i ≡ k)
-unfolding linesAt
-linesAt-e {i} m rank k h = let f = filter-e (λ j. eqb (rank j) k) (range m) h in (range-e m (f .0), eqb-true (rank i) k (f .1))
-
-pub linesAt-i : (i m : ℕ) (rank : ℕ → ℕ) (k : ℕ) → i < m → rank i ≡ k → List·Memᴰ i (linesAt m rank k)
-unfolding linesAt
-linesAt-i i m rank k h e = filter-i (λ j. eqb (rank j) k) (range m) (range-i i m h) (eq-eqb (rank i) k e)
-
-pub distinct-linesAt : (m : ℕ) (rank : ℕ → ℕ) (k : ℕ) → Distinct (linesAt m rank k)
-unfolding linesAt
-distinct-linesAt m rank k = distinct-filter (λ j. eqb (rank j) k) (range m) (distinct-range m)
+use Rattle.layout.proofs.EndLines.{linesAt-e, linesAt-i, distinct-linesAt, bottom-ends, top-ends}
 
 -- A list moved by f, with one element more
 
@@ -63,26 +41,19 @@ getD-half f l q b e h p = getD-map f l q 0 0 (omega arith) ∙ ap (λ (c : ℕ).
 module _ (G : StGraph) where
   -- Outgoing cables
 
-  -- by the rank of the far end, and by column
-  byRank : ℕ → List ℕ
-  byRank k = sortBy (upper G) (linesAt (size G) (lower G) k)
-
-  byColumn : List ℕ → ℕ → List ℕ
-  byColumn xs k = sortBy (λ i. getD xs i 0) (linesAt (size G) (upper G) k)
-
   pub outgoing-e : {i : ℕ} (k : ℕ) → List·Memᴰ i (outgoing G k) → (i < size G) × (lower G i ≡ k)
-  unfolding outgoing
+  unfolding outgoing byRank
   outgoing-e k h = linesAt-e (size G) (lower G) k (sortBy-e (upper G) (linesAt (size G) (lower G) k) (lastly-e (bottomLine G) _ h))
 
   pub outgoing-i : (i k : ℕ) → i < size G → lower G i ≡ k → List·Memᴰ i (outgoing G k)
-  unfolding outgoing
+  unfolding outgoing byRank
   outgoing-i i k h e = lastly-i (bottomLine G) _ (sortBy-i (upper G) (linesAt (size G) (lower G) k) (linesAt-i i (size G) (lower G) k h e))
 
   pub length-outgoing : (k : ℕ) → length (outgoing G k) ≡ length (linesAt (size G) (lower G) k)
-  unfolding outgoing
+  unfolding outgoing byRank
   length-outgoing k = length-lastly (bottomLine G) _ ∙ length-sortBy (upper G) (linesAt (size G) (lower G) k)
 
-  distinct-byRank : (k : ℕ) → Distinct (byRank k)
+  pub distinct-byRank : (k : ℕ) → Distinct (byRank G k)
   unfolding byRank
   distinct-byRank k = distinct-sortBy (upper G) (linesAt (size G) (lower G) k) (distinct-linesAt (size G) (lower G) k)
 
@@ -93,86 +64,62 @@ module _ (G : StGraph) where
   -- Incoming cables, with the columns xs of the cables
 
   pub incoming-e : {i : ℕ} (xs : List ℕ) (k : ℕ) → List·Memᴰ i (incoming G xs k) → (i < size G) × (upper G i ≡ k)
-  unfolding incoming
-  incoming-e xs k h = linesAt-e (size G) (upper G) k (sortBy-e (λ i. getD xs i 0) (linesAt (size G) (upper G) k) (lastly-e (topLine G xs) _ h))
+  unfolding incoming byColumn
+  incoming-e xs k h = linesAt-e (size G) (upper G) k (sortBy-e (λ i. getD xs i 0) (linesAt (size G) (upper G) k) (lastly-e (topLine G) _ h))
 
   pub incoming-i : (xs : List ℕ) (i k : ℕ) → i < size G → upper G i ≡ k → List·Memᴰ i (incoming G xs k)
-  unfolding incoming
-  incoming-i xs i k h e = lastly-i (topLine G xs) _ (sortBy-i (λ i. getD xs i 0) (linesAt (size G) (upper G) k) (linesAt-i i (size G) (upper G) k h e))
+  unfolding incoming byColumn
+  incoming-i xs i k h e = lastly-i (topLine G) _ (sortBy-i (λ i. getD xs i 0) (linesAt (size G) (upper G) k) (linesAt-i i (size G) (upper G) k h e))
 
   pub length-incoming : (xs : List ℕ) (k : ℕ) → length (incoming G xs k) ≡ length (linesAt (size G) (upper G) k)
-  unfolding incoming
-  length-incoming xs k = length-lastly (topLine G xs) _ ∙ length-sortBy (λ i. getD xs i 0) (linesAt (size G) (upper G) k)
+  unfolding incoming byColumn
+  length-incoming xs k = length-lastly (topLine G) _ ∙ length-sortBy (λ i. getD xs i 0) (linesAt (size G) (upper G) k)
 
-  distinct-byColumn : (xs : List ℕ) (k : ℕ) → Distinct (byColumn xs k)
+  pub distinct-byColumn : (xs : List ℕ) (k : ℕ) → Distinct (byColumn G xs k)
   unfolding byColumn
   distinct-byColumn xs k = distinct-sortBy (λ i. getD xs i 0) (linesAt (size G) (upper G) k) (distinct-linesAt (size G) (upper G) k)
 
   pub distinct-incoming : (xs : List ℕ) (k : ℕ) → Distinct (incoming G xs k)
   unfolding incoming byColumn
-  distinct-incoming xs k = distinct-lastly (topLine G xs) _ (distinct-byColumn xs k)
+  distinct-incoming xs k = distinct-lastly (topLine G) _ (distinct-byColumn xs k)
 
-  -- The bottom and the top connection: the laws of the two definitions that name them, from which all else follows
+  -- The bottom and the top connection are the last of their lists
 
-  -- the bottom connection is a line exactly where s has four cables or more, and then one of these
-  pub bottom-there : 3 < length (linesAt (size G) (lower G) 0) → (bottomLine G < size G) × (lower G (bottomLine G) ≡ 0)
-  unfolding bottomLine
-  bottom-there h = linesAt-e (size G) (lower G) 0 (sortBy-e (upper G) _ (getD-mem (sortBy (upper G) (linesAt (size G) (lower G) 0)) 3 (size G) (omega (arith, length-sortBy (upper G) (linesAt (size G) (lower G) 0)))))
-
-  pub bottom-four : bottomLine G < size G → 3 < length (linesAt (size G) (lower G) 0)
-  unfolding bottomLine
-  bottom-four h = fourth-there (sortBy (upper G) (linesAt (size G) (lower G) 0)) (size G) _ (length-sortBy (upper G) (linesAt (size G) (lower G) 0)) h
-
-  -- the top connection and t the same
-  pub top-there : (xs : List ℕ) → 3 < length (linesAt (size G) (upper G) (G .parts - 1)) → (topLine G xs < size G) × (upper G (topLine G xs) ≡ G .parts - 1)
-  unfolding topLine
-  top-there xs h =
-      linesAt-e (size G) (upper G) (G .parts - 1)
-      (sortBy-e (λ i. getD xs i 0) _ (getD-mem (sortBy (λ i. getD xs i 0) (linesAt (size G) (upper G) (G .parts - 1))) 3 (size G) (omega (arith, length-sortBy (λ i. getD xs i 0) (linesAt (size G) (upper G) (G .parts - 1))))))
-
-  pub top-four : (xs : List ℕ) → topLine G xs < size G → 3 < length (linesAt (size G) (upper G) (G .parts - 1))
-  unfolding topLine
-  top-four xs h =
-      fourth-there (sortBy (λ i. getD xs i 0) (linesAt (size G) (upper G) (G .parts - 1))) (size G) _ (length-sortBy (λ i. getD xs i 0) (linesAt (size G) (upper G) (G .parts - 1))) h
-
-  -- it is the last of its list
   pub bottom-last : bottomLine G < size G → suc (indexOf (bottomLine G) (outgoing G 0)) ≡ length (linesAt (size G) (lower G) 0)
   unfolding outgoing byRank
   bottom-last h =
-      let t = bottom-there (bottom-four h) in
-      lastly-last (bottomLine G) (byRank 0) (distinct-byRank 0) (sortBy-i (upper G) _ (linesAt-i (bottomLine G) (size G) (lower G) 0 h (t .1)))
+      lastly-last (bottomLine G) (byRank G 0) (distinct-byRank 0) (sortBy-i (upper G) _ (linesAt-i (bottomLine G) (size G) (lower G) 0 h (bottom-ends G h .1)))
       ∙ length-sortBy (upper G) (linesAt (size G) (lower G) 0)
 
-  pub top-last : (xs : List ℕ) → topLine G xs < size G → suc (indexOf (topLine G xs) (incoming G xs (G .parts - 1))) ≡ length (linesAt (size G) (upper G) (G .parts - 1))
+  pub top-last : (xs : List ℕ) → topLine G < size G → suc (indexOf (topLine G) (incoming G xs (G .parts - 1))) ≡ length (linesAt (size G) (upper G) (G .parts - 1))
   unfolding incoming byColumn
   top-last xs h =
-      let t = top-there xs (top-four xs h) in
-      lastly-last (topLine G xs) (byColumn xs (G .parts - 1)) (distinct-byColumn xs (G .parts - 1))
-      (sortBy-i (λ i. getD xs i 0) _ (linesAt-i (topLine G xs) (size G) (upper G) (G .parts - 1) h (t .1)))
+      lastly-last (topLine G) (byColumn G xs (G .parts - 1)) (distinct-byColumn xs (G .parts - 1))
+      (sortBy-i (λ i. getD xs i 0) _ (linesAt-i (topLine G) (size G) (upper G) (G .parts - 1) h (top-ends G h .2)))
       ∙ length-sortBy (λ i. getD xs i 0) (linesAt (size G) (upper G) (G .parts - 1))
 
   -- the top connection is behind the first three
-  before-top : (xs : List ℕ) (k b : ℕ) → b < length (linesAt (size G) (upper G) k) → b < 3 → b < length (without (topLine G xs) (sortBy (λ i. getD xs i 0) (linesAt (size G) (upper G) k)))
+  before-top : (xs : List ℕ) (k b : ℕ) → b < length (linesAt (size G) (upper G) k) → b < 3 → b < length (without (topLine G) (byColumn G xs k))
   unfolding byColumn
-  before-top xs k b g l = go (decLt (topLine G xs) (size G)) (ℕ-discrete (upper G (topLine G xs)) k)
+  before-top xs k b g l = go (decLt (topLine G) (size G)) (ℕ-discrete (upper G (topLine G)) k)
     where
       lines : List ℕ
-      lines = sortBy (λ i. getD xs i 0) (linesAt (size G) (upper G) k)
+      lines = byColumn G xs k
 
       all : length lines ≡ length (linesAt (size G) (upper G) k)
       all = length-sortBy (λ i. getD xs i 0) (linesAt (size G) (upper G) k)
 
-      within : List·Memᴰ (topLine G xs) lines → (topLine G xs < size G) × (upper G (topLine G xs) ≡ k)
+      within : List·Memᴰ (topLine G) lines → (topLine G < size G) × (upper G (topLine G) ≡ k)
       within m = linesAt-e (size G) (upper G) k (sortBy-e (λ i. getD xs i 0) (linesAt (size G) (upper G) k) m)
 
-      absent : (List·Memᴰ (topLine G xs) lines → ⊥) → b < length (without (topLine G xs) lines)
-      absent n = omega (arith, ap length (without-absent (topLine G xs) lines n), all)
+      absent : (List·Memᴰ (topLine G) lines → ⊥) → b < length (without (topLine G) lines)
+      absent n = omega (arith, ap length (without-absent (topLine G) lines n), all)
 
-      go : Dec (topLine G xs < size G) → Dec (upper G (topLine G xs) ≡ k) → b < length (without (topLine G xs) lines)
+      go : Dec (topLine G < size G) → Dec (upper G (topLine G) ≡ k) → b < length (without (topLine G) lines)
       go (yes u) (yes v) =
-          let f : 3 < length (linesAt (size G) (upper G) (G .parts - 1)) = top-four xs u in
-          let e : G .parts - 1 ≡ k = sym (top-there xs f .1) ∙ v in
-          omega (arith, f, ap (λ (r : ℕ). length (linesAt (size G) (upper G) r)) e, all, without-most (topLine G xs) lines (distinct-byColumn xs k))
+          let f = top-ends G u in
+          let e : G .parts - 1 ≡ k = sym (f .2) ∙ v in
+          omega (arith, f .0, ap (λ (r : ℕ). length (linesAt (size G) (upper G) r)) e, all, without-most (topLine G) lines (distinct-byColumn xs k))
       go (yes u) (no v) = absent (λ m. v (within m .1))
       go (no u) v = absent (λ m. u (within m .0))
 
@@ -180,11 +127,11 @@ module _ (G : StGraph) where
   pub incoming-rises :
       (xs : List ℕ) (k a b : ℕ) → a ≤ b → b < length (incoming G xs k) → b < 3
       → getD xs (getD (incoming G xs k) a 0) 0 ≤ getD xs (getD (incoming G xs k) b 0) 0
-  unfolding incoming
+  unfolding incoming byColumn
   incoming-rises xs k a b h g l =
       let key : ℕ → ℕ = λ i. getD xs i 0 in
-      lastly-rises key (topLine G xs) (sortBy key (linesAt (size G) (upper G) k)) (rising-sortBy key (linesAt (size G) (upper G) k)) a b h
-      (before-top xs k b (omega (arith, length-lastly (topLine G xs) (sortBy key (linesAt (size G) (upper G) k)), length-sortBy key (linesAt (size G) (upper G) k))) l)
+      lastly-rises key (topLine G) (sortBy key (linesAt (size G) (upper G) k)) (rising-sortBy key (linesAt (size G) (upper G) k)) a b h
+      (before-top xs k b (omega (arith, length-lastly (topLine G) (sortBy key (linesAt (size G) (upper G) k)), length-sortBy key (linesAt (size G) (upper G) k))) l)
 
   -- The columns once k ranks stand: of the cable at line i, of rank j, and their count
 

@@ -1,5 +1,5 @@
--- Stations B, C and D of document 01 at this stage, in ranks: where the ranks stand and where the cables turn. B's and D's values are document 01's.
--- D has all four drawings of figure 3 and the last of figure 2; a chain has those with one cable at an end.
+-- Stations B, C and D of document 01 at this stage, in ranks: where the ranks stand and where the cables turn. B's values are document 01's, where the
+-- ranks of D stand is request 2026-04's. D has all four drawings of figure 3 and the last of figure 2; a chain has those with one cable at an end.
 -- And D, which has four cables at both ends, is ranked, so that what is shown of ranked stations holds of it. Assumes nothing.
 use Prim.Native.Nat.{ℕ, zero, suc, _+_, _<_, _≤_}
 use native.Mathlib.Omega.{arith}
@@ -10,7 +10,7 @@ use lib.ListN.{length}
 use Rattle.lists.specs.Select.{upFrom, range, tabulate, filter}
 use Rattle.lists.proofs.Select.{getD-mem}
 use Rattle.order.specs.Graph.{StGraph, lower, upper, linesAt, Ranked}
-use Rattle.layout.proofs.Step.{linesAt-e}
+use Rattle.layout.proofs.EndLines.{linesAt-e}
 use Rattle.drawing.specs.Spots.{Spot, spotAt}
 use Rattle.layout.specs.Points.{cornersOf, rankSpot, courseOf}
 use Rattle.layout.proofs.Computing.{layout-computing}
@@ -44,8 +44,15 @@ record Worked : Type 0 where
   c-line-0 : corners c 0 ≡ spotAt 1 2 ∷ []
   c-line-1 : corners c 1 ≡ spotAt 0 0 ∷ []
   c-line-4 : corners c 4 ≡ spotAt 2 0 ∷ spotAt 2 3 ∷ []
-  d-spots : spots d ≡ spotAt 4 1 ∷ spotAt 2 2 ∷ spotAt 1 3 ∷ spotAt 2 4 ∷ spotAt 2 5 ∷ []
-  d-line-3 : corners d 3 ≡ spotAt 4 0 ∷ spotAt 6 0 ∷ spotAt 6 6 ∷ spotAt 2 6 ∷ []
+  -- 'D then has its parts at (2,1), (5,2), (1,3), (2,4), (3,5)'
+  d-spots : spots d ≡ spotAt 2 1 ∷ spotAt 5 2 ∷ spotAt 1 3 ∷ spotAt 2 4 ∷ spotAt 3 5 ∷ []
+  -- the bottom connection, to rank 1, and the top connection, from rank 3
+  d-line-0 : corners d 0 ≡ spotAt 2 0 ∷ spotAt 5 0 ∷ []
+  d-line-9 : corners d 9 ≡ spotAt 2 6 ∷ spotAt 3 6 ∷ []
+  -- the cables of s to the ranks above: left, own, right
+  d-line-1 : corners d 1 ≡ spotAt 1 1 ∷ []
+  d-line-2 : corners d 2 ≡ []
+  d-line-3 : corners d 3 ≡ spotAt 3 1 ∷ []
 
 worked : Worked
 unfolding layout-computing
@@ -60,6 +67,10 @@ worked = record {
   c-line-1 = refl;
   c-line-4 = refl;
   d-spots = refl;
+  d-line-0 = refl;
+  d-line-9 = refl;
+  d-line-1 = refl;
+  d-line-2 = refl;
   d-line-3 = refl;
 }
 

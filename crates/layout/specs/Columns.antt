@@ -1,10 +1,11 @@
--- Document 01, 'Columns and rows': the columns of parts and cables. A column is its place in the list of columns, from the left;
+-- Document 01, 'Columns and rows', with request 2026-04: the columns of parts and cables. A column is its place in the list of columns, from the left;
 -- a column that is put in moves those right of it. Assumes nothing.
 use Prim.Native.Nat.{ℕ, zero, suc, _+_, _-_}
-use mathlib.Core.Bool.{cond}
+use mathlib.Core.Bool.{Bool, cond, _&&_}
 use mathlib.Core.List.{List, [], _∷_, _++_, map}
 use lib.ListN.{length, getD, replicate}
 use lib.Dec.{eqb, ltb}
+use Rattle.lists.specs.Search.{seek, placeOr}
 use Rattle.lists.specs.Select.{tabulate, lastly, indexOf, sortBy}
 use Rattle.order.specs.Graph.{StGraph, size, lower, upper, linesAt}
 use Rattle.layout.specs.Ports.{inPorts, outPorts, placeBelow, newLeft, newRight, portColumn}
@@ -20,21 +21,43 @@ unfoldable pub moved : ℕ → ℕ → ℕ → ℕ → ℕ
 moved p a b x = cond (ltb x p) x (cond (eqb x p) (x + a) (x + a + b))
 
 module _ (G : StGraph) where
-  -- 'The fourth leaves s downward': the line at the bottom connection (source 000's term), or the count of lines where s has fewer than four.
+  -- s has four cables: all cables of s, rank 0, are outgoing
+  abbrev pub sourceHasFour : Bool
+  sourceHasFour = eqb (length (linesAt (size G) (lower G) 0)) 4
+
+  -- t has four: all cables of t, the last rank, are incoming
+  abbrev pub analyserHasFour : Bool
+  analyserHasFour = eqb (length (linesAt (size G) (upper G) (G .parts - 1))) 4
+
+  -- the lowest line among those from rank j to rank k, or the count of lines where there is none
+  unfoldable pub lineBetween : ℕ → ℕ → ℕ
+  lineBetween j k = placeOr (size G) (seek (λ i. eqb (lower G i) j && eqb (upper G i) k) 0 (size G))
+
+  -- 2026-04: 'Where s has four cables, the one to the second-ranked part leaves downward': the line at the bottom connection (source 000's term), or the
+  -- count of lines where s has fewer.
   unfoldable pub bottomLine : ℕ
-  bottomLine = getD (sortBy (upper G) (linesAt (size G) (lower G) 0)) 3 (size G)
+  bottomLine = cond sourceHasFour (lineBetween 0 1) (size G)
 
-  -- 'The fourth climbs one row more': the line at the top connection, by the columns of the cables, or the count of lines where t has fewer than four.
-  unfoldable pub topLine : List ℕ → ℕ
-  topLine xs = getD (sortBy (λ i. getD xs i 0) (linesAt (size G) (upper G) (G .parts - 1))) 3 (size G)
+  -- 'Where t has four, the cable from the last-ranked part but one climbs over the top': the line at the top connection, or the count of lines where t
+  -- has fewer.
+  unfoldable pub topLine : ℕ
+  topLine = cond analyserHasFour (lineBetween (G .parts - 2) (G .parts - 1)) (size G)
 
-  -- the outgoing cables of rank k, 'left to right by rising rank of the far end', the lower line first among equals; the bottom connection last
+  -- the cables that go out of rank k, 'left to right by rising rank of the far end', the lower line first among equals
+  unfoldable pub byRank : ℕ → List ℕ
+  byRank k = sortBy (upper G) (linesAt (size G) (lower G) k)
+
+  -- the cables that come in at rank k, by rising column
+  unfoldable pub byColumn : List ℕ → ℕ → List ℕ
+  byColumn xs k = sortBy (λ i. getD xs i 0) (linesAt (size G) (upper G) k)
+
+  -- the outgoing cables of rank k: the bottom connection, which 'takes the far right column', is last; 'the other three go left, own, right by rising rank'
   unfoldable pub outgoing : ℕ → List ℕ
-  outgoing k = lastly bottomLine (sortBy (upper G) (linesAt (size G) (lower G) k))
+  outgoing k = lastly bottomLine (byRank k)
 
-  -- the incoming cables of rank k, by rising column; the top connection last
+  -- the incoming cables of rank k: the top connection, wherever its column is, is last; 'the other three .. come in left, below and right'
   unfoldable pub incoming : List ℕ → ℕ → List ℕ
-  incoming xs k = lastly (topLine xs) (sortBy (λ i. getD xs i 0) (linesAt (size G) (upper G) k))
+  incoming xs k = lastly topLine (byColumn xs k)
 
   -- the column that rank k takes: that of the incoming cable from below, or the only one there is at the start
   unfoldable pub taken : List ℕ → ℕ → ℕ

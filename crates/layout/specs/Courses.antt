@@ -11,7 +11,7 @@ use Rattle.drawing.specs.Spots.{spotAt}
 use Rattle.drawing.specs.Lengths.{lineLength}
 use Rattle.layout.specs.declared.ends.Ends.{Ends}
 use Rattle.layout.specs.declared.courses.Cable.{Cable}
-use Rattle.layout.specs.Columns.{bottomLine, topLine, columns}
+use Rattle.layout.specs.Columns.{bottomLine, topLine}
 use Rattle.layout.specs.Points.{Course, pointsOf, bottomRows, topRows}
 
 -- what the courses of the graph's cables share
@@ -19,7 +19,7 @@ pub record EndsOf (G : StGraph) (e : Ends) : Type 0 where
   pub bottom-rows : e .«bottom_rows» ≡ bottomRows G
   pub top-rows : e .«top_rows» ≡ topRows G
   pub bottom-line : e .«bottom_line» ≡ bottomLine G
-  pub top-line : e .«top_line» ≡ topLine G (columns G (G .parts) .cables)
+  pub top-line : e .«top_line» ≡ topLine G
 
 -- the cable's parts are among the n whose columns are given, and its rows are within 16 bits
 pub record Reaches (n : ℕ) (e : Ends) (c : Cable) : Type 0 where

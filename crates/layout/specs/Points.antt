@@ -5,9 +5,9 @@ use mathlib.Core.List.{List, [], _∷_}
 use lib.ListN.{length, getD, take, drop}
 use lib.Dec.{eqb}
 use Rattle.lists.specs.Select.{oneIf, consIf}
-use Rattle.order.specs.Graph.{StGraph, size, lower, upper, linesAt}
+use Rattle.order.specs.Graph.{StGraph, lower, upper}
 use Rattle.drawing.specs.Spots.{Spot, sameSpot, spotAt}
-use Rattle.layout.specs.Columns.{Columns, bottomLine, topLine, columns}
+use Rattle.layout.specs.Columns.{Columns, sourceHasFour, analyserHasFour, bottomLine, topLine, columns}
 
 -- A cable's course: up from its lower part's spot, or down to the lane below it; level in the lower lane to the cable's own column; up to the
 -- upper lane; level to its upper part's column; and up, or down, to the part.
@@ -47,13 +47,13 @@ unfoldable pub cornersOf : Course → List Spot
 cornersOf c = inner (pointsOf c)
 
 module _ (G : StGraph) where
-  -- 'Let d be 1 if s has four cables and 0 otherwise': all cables of s, rank 0, are outgoing.
+  -- 'Let d be 1 if s has four cables and 0 otherwise'
   unfoldable pub bottomRows : ℕ
-  bottomRows = oneIf (eqb (length (linesAt (size G) (lower G) 0)) 4)
+  bottomRows = oneIf (sourceHasFour G)
 
-  -- 'and e the same for t': all cables of t, the last rank, are incoming.
+  -- 'and e the same for t'
   unfoldable pub topRows : ℕ
-  topRows = oneIf (eqb (length (linesAt (size G) (upper G) (G .parts - 1))) 4)
+  topRows = oneIf (analyserHasFour G)
 
   -- 'Rank k stands in row d + k.'
   unfoldable pub row : ℕ → ℕ
@@ -69,7 +69,7 @@ module _ (G : StGraph) where
     from = partSpot c (lower G i);
     low = cond (eqb i (bottomLine G)) 0 (row (lower G i));
     column = getD (c .cables) i 0;
-    high = cond (eqb i (topLine G (c .cables))) (row (G .parts)) (row (upper G i));
+    high = cond (eqb i (topLine G)) (row (G .parts)) (row (upper G i));
     to = partSpot c (upper G i);
   }
 

@@ -1,5 +1,6 @@
--- Document 01, 'Columns and rows': the ports by which the cables of a part leave it and come in, a clause for each drawing of figures 2 and 3 of source
--- 000. Counts of cables that no drawing has leave some without a port; that none of these counts occurs is a law (proofs/Drawings). Assumes nothing.
+-- Document 01, 'Columns and rows', with request 2026-04: the ports by which the cables of a part leave it and come in, a clause for each drawing of
+-- figures 2 and 3 of source 000. Counts of cables that no drawing has leave some without a port; that none of these counts occurs is a law
+-- (proofs/Drawings). Assumes nothing.
 use Prim.Native.Nat.{ℕ, zero, suc, _+_}
 use mathlib.Core.List.{List, [], _∷_}
 
@@ -10,7 +11,8 @@ pub data Port : Type 0 where
   right : Port
   above : Port
 
--- Figure 2: the ports of the cables of s, which all go out, from left to right, by their count. The one that leaves upward has the part's own column.
+-- Figure 2: the ports of the cables of s, which all go out, from left to right, the bottom connection last, by their count. The one that leaves upward
+-- has the part's own column.
 abbrev pub sourcePorts : ℕ → List Port
 -- 's gets its own column'
 sourcePorts (suc zero) = above ∷ []
@@ -18,7 +20,8 @@ sourcePorts (suc zero) = above ∷ []
 sourcePorts (suc (suc zero)) = above ∷ right ∷ []
 -- 'one to its left (three or more)'
 sourcePorts (suc (suc (suc zero))) = left ∷ above ∷ right ∷ []
--- 'and one right of all these (four)'; 'The fourth leaves s downward'
+-- 'and one right of all these (four)'; 2026-04: the one at the bottom connection 'leaves downward and takes the far right column; the other three go
+-- left, own, right'
 sourcePorts (suc (suc (suc (suc zero)))) = left ∷ above ∷ right ∷ below ∷ []
 -- no drawing
 sourcePorts zero = []
@@ -33,7 +36,8 @@ inPorts (suc zero) = below ∷ []
 inPorts (suc (suc zero)) = below ∷ right ∷ []
 -- 'with 3, the middle one'
 inPorts (suc (suc (suc zero))) = left ∷ below ∷ right ∷ []
--- 't with 4 incoming cables takes the second column. The first and third come in level. The fourth climbs one row more, .. and drops to t.'
+-- 2026-04: t stands 'in the middle column of the other three, which come in left, below and right', and the one at the top connection 'climbs over the
+-- top'
 inPorts (suc (suc (suc (suc zero)))) = left ∷ below ∷ right ∷ above ∷ []
 -- s, and no drawing
 inPorts zero = []

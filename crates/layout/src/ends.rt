@@ -1,13 +1,12 @@
 // The bottom and the top connection, and the rows that they take.
 use crate::Columns;
 use crate::incident::fourth_or;
-use crate::incident::incoming;
-use crate::incident::outgoing;
+use crate::sequence::incoming;
+use crate::sequence::outgoing;
 use lists::one_if;
 use order::Graph;
 use words::Rank;
 ghost use mathlib.Core.Path.{_≡_};
-ghost use lib.ListN.{take};
 ghost use Rattle.order.specs.Arrays.{graphIn};
 ghost use Rattle.layout.specs.Columns.{bottomLine, topLine};
 ghost use Rattle.layout.specs.Arrays.{GraphFits};
@@ -22,7 +21,7 @@ pub struct Ends {
     pub top_line: usize,
 }
 
-// 'The fourth leaves s downward': the line at the bottom connection, or the count of lines where s has fewer than four.
+// 'the one to the second-ranked part leaves downward': the line at the bottom connection, or the count of lines where s has fewer than four.
 fn bottom_line(graph: Graph) -> usize
     requires { ⌜ GraphFits graph ⌝ }
     ensures { λ r. ⌜ r ≡ bottomLine (graphIn graph) ⌝ }
@@ -30,10 +29,10 @@ fn bottom_line(graph: Graph) -> usize
     fourth_or(outgoing(graph, Rank::of(0)), graph.cables)
 }
 
-// 'The fourth climbs one row more': the line at the top connection, or the count of lines where t has fewer than four.
+// 'the cable from the last-ranked part but one climbs over the top': the line at the top connection, or the count of lines where t has fewer than four.
 fn top_line(graph: Graph, columns: Columns) -> usize
     requires { ⌜ GraphFits graph ⌝ }
-    ensures { λ r. ⌜ r ≡ topLine (graphIn graph) (take (graph .cables) (columns .cables)) ⌝ }
+    ensures { λ r. ⌜ r ≡ topLine (graphIn graph) ⌝ }
 {
     let cables = columns.cables;
     let last = Rank::of((graph.parts - 1) as u16);

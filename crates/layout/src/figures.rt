@@ -116,7 +116,7 @@ fn source_with_three() -> Placement
     three(0, 1, 1, Port::Left, Port::Above, Port::Right)
 }
 
-// Figure 2, the drawing with four cables: 'one right of all these'; the fourth leaves downward.
+// Figure 2, the drawing with four cables: 'one right of all these', for the bottom connection, which leaves downward.
 fn source_with_four() -> Placement
     ensures { λ r. ⌜ Stands [] [] (sourcePorts 4) r ⌝ }
 {
@@ -163,8 +163,8 @@ fn three_in(ins: Incident, outs: usize) -> Placement
     }
 }
 
-// Figure 3, the drawing with four coming in: t takes the second column. The first comes from the left, the third from the right, the fourth over the
-// top, and none goes out.
+// Figure 3, the drawing with four coming in: t takes the middle column of the first three, of which the others come from the left and from the right.
+// The last is the top connection, which comes over the top, and none goes out.
 fn four_in(ins: Incident) -> Placement
     ensures { λ r. ⌜ Stands (firstKeys 4 ins) (inPorts 4) (outPorts 4 0) r ⌝ }
 {

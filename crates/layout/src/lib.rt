@@ -9,6 +9,7 @@ mod ends;
 mod figures;
 mod incident;
 mod placing;
+mod sequence;
 
 ghost use mathlib.Core.Path.{_≡_};
 ghost use Rattle.layout.specs.Arrays.{GraphFits, IsLayout};

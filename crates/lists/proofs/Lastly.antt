@@ -1,7 +1,7 @@
 -- A list with one element moved to its end: the same elements, that one last, the others in their sequence. Assumes nothing.
-use Prim.Native.Nat.{ℕ, zero, suc, _+_, _<_, _≤_}
+use Prim.Native.Nat.{ℕ, suc, _+_, _<_, _≤_}
 use native.Mathlib.Omega.{arith}
-use mathlib.Core.Path.{_≡_, refl, sym, ap, subst, _∙_}
+use mathlib.Core.Path.{_≡_, refl, sym, ap, ap₂, subst, _∙_}
 use mathlib.Core.Logic.{_⊎_, ⊎-elim}
 use mathlib.Core.Bool.{Bool, true, false, not}
 use mathlib.Core.List.{List, [], _∷_, _++_, List·Memᴰ, List·Memᴰ·head, List·Memᴰ·tail, List·Memᴰ·not-nil, List·Memᴰ·append-cases, Memᴰ·append-left, Memᴰ·append-right}
@@ -11,7 +11,8 @@ use lib.Dec.{eqb}
 use borrow.Author.Tests.{eqb-true, eq-eqb, ne-eqb}
 use Rattle.lists.specs.Select.{filter, consIf, without, indexOf, lastly}
 use Rattle.lists.proofs.Bools.{not-e}
-use Rattle.lists.proofs.Select.{getD-mem, filter-e, filter-i, Distinct, distinct-filter, indexOf-getD}
+use Rattle.lists.proofs.Select.{filter-e, filter-i, Distinct, distinct-filter, indexOf-getD}
+use Rattle.lists.proofs.Filters.{without-absent}
 use Rattle.lists.proofs.Sort.{Rising, rising-places}
 use Rattle.lists.proofs.Sets.{length-without, rising-without}
 
@@ -111,25 +112,25 @@ without-most x l u = go (filter (eqb x) l) refl
         let q : y ≡ x = sym (eqb-true x y (f .1)) in
         omega (arith, length-parted (eqb x) l, ap length (alone x l u (subst (λ (z : ℕ). List·Memᴰ z l) q (f .0))))
 
--- A list that is kept as it is
+-- By the list's first element
 
-skipped : (x y : ℕ) (l : List ℕ) → (x ≡ y → ⊥) → lastly x (y ∷ l) ≡ y ∷ lastly x l
+pub lastly-skips : (x y : ℕ) (l : List ℕ) → (x ≡ y → ⊥) → lastly x (y ∷ l) ≡ y ∷ lastly x l
 unfolding lastly without filter
-skipped x y l n = rw (ne-eqb x y n)
+lastly-skips x y l n = rw (ne-eqb x y n)
 
--- x is not in it
+-- a list without x is kept as it is
 pub lastly-absent : (x : ℕ) (l : List ℕ) → (List·Memᴰ x l → ⊥) → lastly x l ≡ l
 unfolding lastly without filter
 lastly-absent x [] n = refl
-lastly-absent x (y ∷ ys) n = skipped x y ys (λ e. n (List·Memᴰ·head e)) ∙ ap (λ (l : List ℕ). y ∷ l) (lastly-absent x ys (λ m. n (List·Memᴰ·tail m)))
+lastly-absent x (y ∷ ys) n = lastly-skips x y ys (λ e. n (List·Memᴰ·head e)) ∙ ap (λ (l : List ℕ). y ∷ l) (lastly-absent x ys (λ m. n (List·Memᴰ·tail m)))
 
--- x is its last element
-pub lastly-end : (l : List ℕ) (j d : ℕ) → Distinct l → length l ≡ suc j → lastly (getD l j d) l ≡ l
+none-alike : (x : ℕ) (l : List ℕ) → (List·Memᴰ x l → ⊥) → filter (eqb x) l ≡ []
+unfolding filter
+none-alike x [] n = refl
+none-alike x (y ∷ ys) n = rw (ne-eqb x y (λ e. n (List·Memᴰ·head e))) (none-alike x ys (λ m. n (List·Memᴰ·tail m)))
+
+-- x is first, and nowhere else
+pub lastly-first : (x y : ℕ) (l : List ℕ) → x ≡ y → (List·Memᴰ x l → ⊥) → lastly x (y ∷ l) ≡ l ++ y ∷ []
 unfolding lastly without filter
-lastly-end [] j d u e = absurd (omega arith)
-lastly-end (x ∷ []) zero d u e = rw (eq-eqb x x refl)
-lastly-end (x ∷ []) (suc j) d u e = absurd (omega arith)
-lastly-end (x ∷ y ∷ ys) zero d u e = absurd (omega arith)
-lastly-end (x ∷ y ∷ ys) (suc j) d u e =
-    skipped (getD (y ∷ ys) j d) x (y ∷ ys) (λ q. u .0 (subst (λ (z : ℕ). List·Memᴰ z (y ∷ ys)) q (getD-mem (y ∷ ys) j d (omega arith))))
-    ∙ ap (λ (l : List ℕ). x ∷ l) (lastly-end (y ∷ ys) j d (u .1) (omega arith))
+lastly-first x y l e n =
+    rw (eq-eqb x y e) (ap₂ (λ (a b : List ℕ). a ++ y ∷ b) (without-absent x l n) (none-alike x l n))

@@ -60,14 +60,6 @@ count-not q (suc m) = rw (count-range q m, count-range (λ i. not (q i)) m) (go 
     go true e = omega arith
     go false e = omega arith
 
--- what passes a test passes one of two others
-pub count-either :
-    (p q r : ℕ → Bool) (m : ℕ) → ((i : ℕ) → i < m → oneIf (p i) ≤ oneIf (q i) + oneIf (r i))
-    → count p (range m) ≤ count q (range m) + count r (range m)
-count-either p q r zero h = omega (arith, count-range-zero p)
-count-either p q r (suc m) h =
-    omega (arith, count-range p m, count-range q m, count-range r m, h m (omega arith), count-either p q r m (λ i l. h i (omega arith)))
-
 -- two tests that no number passes together
 pub count-or :
     (p q : ℕ → Bool) (m : ℕ) → ((i : ℕ) → i < m → p i ≡ true → q i ≡ false)

@@ -9,12 +9,14 @@ use lib.ListN.{length, getD}
 use lib.Dec.{leb}
 use borrow.Author.Tests.{leb-true, leb-false}
 use Rattle.station.specs.Station.{Cable, Station, noCable}
+use Rattle.station.proofs.Passed.{SamePair, Simple}
 use Rattle.order.specs.Order.{order, rankIn}
 use Rattle.order.specs.Graph.{lower, upper}
 use Rattle.order.specs.Ends.{lowerPart, upperPart, graphOf}
 use Rattle.order.proofs.Joins.{within}
 use Rattle.order.proofs.Bipolar.{Orderable}
-use Rattle.order.proofs.Ranks.{lower-is, upper-is, part-of-rank}
+use Rattle.order.proofs.Graphs.{Once}
+use Rattle.order.proofs.Ranks.{graph-size, lower-is, upper-is, part-of-rank}
 
 module _ (l : List ℕ) (c : Cable) where
   pub lowerPart-rank : rankIn l (lowerPart l c) ≡ min (rankIn l (c .one)) (rankIn l (c .other))
@@ -49,6 +51,18 @@ module _ (l : List ℕ) (c : Cable) where
   pub parts-inside : (n : ℕ) → c .one < n → c .other < n → (lowerPart l c < n) × (upperPart l c < n)
   parts-inside n h g = ⊎-elim (λ e. omega (arith, e .0, e .1)) (λ e. omega (arith, e .0, e .1)) parts-joined
 
+-- cables with the same lower-ranked and the same other part join the same two
+same-pair : (l : List ℕ) (c d : Cable) → lowerPart l c ≡ lowerPart l d → upperPart l c ≡ upperPart l d → SamePair c d
+same-pair l c d e f = go (parts-joined l c) (parts-joined l d)
+  where
+    go :
+        ((lowerPart l c ≡ c .one) × (upperPart l c ≡ c .other)) ⊎ ((lowerPart l c ≡ c .other) × (upperPart l c ≡ c .one))
+        → ((lowerPart l d ≡ d .one) × (upperPart l d ≡ d .other)) ⊎ ((lowerPart l d ≡ d .other) × (upperPart l d ≡ d .one)) → SamePair c d
+    go (inl a) (inl b) = inl (omega arith)
+    go (inl a) (inr b) = inr (omega arith)
+    go (inr a) (inl b) = inr (omega arith)
+    go (inr a) (inr b) = inl (omega arith)
+
 -- The parts that the ranks of a line stand for
 
 module _ (st : Station) (H : Orderable st) (i : ℕ) (h : i < length (st .cables)) where
@@ -64,3 +78,13 @@ module _ (st : Station) (H : Orderable st) (i : ℕ) (h : i < length (st .cables
   upper-part =
       ap (λ (k : ℕ). getD (order st) k 0) (upper-is st i h ∙ sym (upperPart-rank (order st) (getD (st .cables) i noCable)))
       ∙ part-of-rank st H (upperPart (order st) (getD (st .cables) i noCable)) (inside .1)
+
+-- where no two cables join the same two parts, each two ranks are joined at most once
+pub ranks-once : (st : Station) → Orderable st → Simple st → (u v : ℕ) → Once (graphOf st) u v
+ranks-once st H S u v i j h g a b c d =
+    let k : i < length (st .cables) = omega (arith, graph-size st) in
+    let l : j < length (st .cables) = omega (arith, graph-size st) in
+    S i j k l
+    (same-pair (order st) (getD (st .cables) i noCable) (getD (st .cables) j noCable)
+    (sym (lower-part st H i k) ∙ ap (λ (r : ℕ). getD (order st) r 0) (a ∙ sym c) ∙ lower-part st H j l)
+    (sym (upper-part st H i k) ∙ ap (λ (r : ℕ). getD (order st) r 0) (b ∙ sym d) ∙ upper-part st H j l))

@@ -1,5 +1,5 @@
 -- What holds of every ranked st-graph. Assumes nothing.
-use Prim.Native.Nat.{ℕ, zero, suc, _+_, _*_, _<_, _≤_}
+use Prim.Native.Nat.{ℕ, zero, suc, _+_, _-_, _*_, _<_, _≤_}
 use native.Mathlib.Omega.{arith}
 use mathlib.Core.Path.{_≡_}
 use mathlib.Core.Bool.{true}
@@ -12,9 +12,30 @@ use Rattle.lists.proofs.Select.{length-filter}
 use Rattle.lists.proofs.Sums.{count-none, count-all, count-key}
 use Rattle.order.specs.Graph.{StGraph, size, lower, upper, linesAt, Ranked}
 
+-- at most one cable goes from rank u to rank v
+abbrev pub Once : StGraph → ℕ → ℕ → Type 0
+Once g u v = (i j : ℕ) → i < size g → j < size g → lower g i ≡ u → upper g i ≡ v → lower g j ≡ u → upper g j ≡ v → i ≡ j
+
+-- the two lowest ranks, and the two highest, are not joined more than once
+pub record EndsOnce (g : StGraph) : Type 0 where
+  pub lowest : Once g 0 1
+  pub highest : Once g (g .parts - 2) (g .parts - 1)
+
 module _ (g : StGraph) (R : Ranked g) where
   pub lower-inside : (i : ℕ) → i < size g → lower g i < g .parts
   lower-inside i h = omega (arith, R .rises i h, R .inside i h)
+
+  -- s is joined to rank 1, and rank n - 2 to t (of every st-ordering: `source-second`, `analyser-last-but-one` in proofs/StOrder)
+
+  pub second-joined : 2 ≤ g .parts → (i : ℕ) × (i < size g) × (lower g i ≡ 0) × (upper g i ≡ 1)
+  second-joined two =
+      let c = R .entered 1 (omega arith) two in
+      (c .0, c .1, omega (arith, R .rises (c .0) (c .1), c .2), c .2)
+
+  pub last-joined : 2 ≤ g .parts → (i : ℕ) × (i < size g) × (lower g i ≡ g .parts - 2) × (upper g i ≡ g .parts - 1)
+  last-joined two =
+      let c = R .continued (g .parts - 2) (omega arith) in
+      (c .0, c .1, c .2, omega (arith, R .rises (c .0) (c .1), R .inside (c .0) (c .1), c .2))
 
   -- the lines whose rank, as the function gives it, is less than k
   below : (ℕ → ℕ) → ℕ → ℕ

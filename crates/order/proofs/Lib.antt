@@ -11,8 +11,8 @@ pub mod Completion
 pub mod StOrder
 pub mod Rule
 pub mod Ranks
-pub mod Ends
 pub mod Graphs
+pub mod Ends
 pub mod Passed
 pub mod Triangle
 pub mod AdjacencyTable

@@ -1,5 +1,5 @@
 -- A list that passes checks 1 to 10: each check, the condition of the order theorem, and the order theorem for lists. Assumes nothing.
-use Prim.Native.Nat.{ℕ, _≤_}
+use Prim.Native.Nat.{ℕ, _-_, _≤_}
 use mathlib.Core.Path.{_≡_, refl}
 use mathlib.Core.List.{List, List·Memᴰ·head, List·Memᴰ·tail}
 use lib.ListN.{length}
@@ -9,7 +9,7 @@ use Rattle.station.specs.Station.{stationOf}
 use Rattle.station.specs.Checks.{Clear, listChecks}
 use Rattle.station.specs.Code.{Wired}
 use Rattle.station.proofs.FirstRefusal.{clear-each, clear-prefix, clear-rest}
-use Rattle.station.proofs.Passed.{wired, wired-words, cables-most}
+use Rattle.station.proofs.Passed.{wired, simple, wired-words, cables-most}
 use Rattle.order.specs.Reach.{check9, check10}
 use Rattle.order.specs.Checks.{stationChecks, allChecks}
 use Rattle.order.specs.Order.{order}
@@ -19,6 +19,8 @@ use Rattle.order.specs.Ends.{graphOf}
 use Rattle.order.proofs.Bipolar.{Orderable, bipolar-of-check10}
 use Rattle.order.proofs.StOrder.{order-ordering, order-smallest}
 use Rattle.order.proofs.Ranks.{order-ranked}
+use Rattle.order.proofs.Graphs.{EndsOnce}
+use Rattle.order.proofs.Ends.{ranks-once}
 
 -- each of checks 9 and 10 finds nothing
 pub clear-9 : (list : List ℕ) → Clear allChecks list → check9 (stationOf list) ≡ Nothing
@@ -58,6 +60,13 @@ module _ (list : List ℕ) (pass : Clear allChecks list) where
   -- what the layout asks for
   pub list-ranked : Ranked (graphOf (stationOf list))
   list-ranked = order-ranked (stationOf list) list-orderable
+
+  -- and what its limit of two corners rests on
+  pub list-once : EndsOnce (graphOf (stationOf list))
+  list-once =
+      let once = ranks-once (stationOf list) list-orderable (simple list (clear-8 list pass)) in
+      let n = graphOf (stationOf list) .parts in
+      record { lowest = once 0 1; highest = once (n - 2) (n - 1) }
 
   pub lines-most : length (stationOf list .cables) ≤ mostCables
   lines-most = cables-most (stationOf list) list-wired

@@ -261,3 +261,17 @@ module _ (st : Station) (H : Orderable st) where
         where
           split : r ≡ st .source ∷ drop 1 r
           split = drop-cons r 0 0 (omega (arith, O .all, H .wired .source)) ∙ ap (λ (y : ℕ). y ∷ drop 1 r) (O .first)
+
+-- Source 000, lemma 3.4: 'Since we have an st-ordering, there must be edges (v_1, v_2) and (v_{n-1}, v_n).'
+
+module _ (st : Station) (l : List ℕ) (O : StOrdering st l) (three : 3 ≤ st .parts) where
+  pub source-second : Joined (st .cables) (getD l 1 0) (st .source)
+  source-second =
+      let b = O .before 1 (omega arith) (omega arith) in
+      let z : b .0 ≡ 0 = omega (arith, b .1) in
+      subst (λ (p : ℕ). Joined (st .cables) (getD l 1 0) p) (ap (λ (k : ℕ). getD l k 0) z ∙ O .first) (b .2)
+
+  pub analyser-last-but-one : Joined (st .cables) (getD l (st .parts - 2) 0) (st .analyser)
+  analyser-last-but-one =
+      let a = O .after (st .parts - 2) (omega arith) (omega arith) in
+      subst (λ (p : ℕ). Joined (st .cables) (getD l (st .parts - 2) 0) p) (O .last (a .0) (omega (arith, a .1, a .2))) (a .3)

@@ -1,7 +1,4 @@
 -- Each end has a row more exactly where it has a connection. Assumes nothing.
-use mathlib.Core.Path.{ap, _∙_}
-use Rattle.order.specs.Arrays.{graphIn}
-use Rattle.layout.specs.Columns.{topLine}
 use Rattle.layout.proofs.Lengths.{lines-count}
 use Rattle.layout.proofs.Lanes.{ends-read}
 use Rattle.layout.proofs.ends.ends_of.Statement.{statement}
@@ -24,7 +21,7 @@ returns c =
     let s = c .before .before .before .before in
     let v = s .pre .0 in
     ends-read (v .ranked) (lines-count v (s .good .0)) (c .before .before .before .bottom-line .ensures)
-    (c .before .before .top-line .ensures ∙ ap (topLine (graphIn (s .args .graph))) (s .pre .1 .cables)) (c .before .one-if .ensures) (c .one-if2 .ensures)
+    (c .before .before .top-line .ensures) (c .before .one-if .ensures) (c .one-if2 .ensures)
 
 pub ends-of-spec : {M : Type 1} → statement M
 ends-of-spec =
