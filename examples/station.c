@@ -1,4 +1,4 @@
-/* A list as an array, one call, and its sheet or its refusal in words: examples/link builds and runs it. */
+/* A list as an array, one call with a discount, and its sheet and bill or its refusal in words: examples/link builds and runs it. */
 #include <stdio.h>
 #include "dovranis.h"
 
@@ -8,29 +8,35 @@ static const char *const refusals[] = {
     "a part number is too large, word", "two ends are the same part, word",
     "two parts are joined again, word", "a part has more than four cables, part",
     "part 0 doesn't reach a part, part", "a part's removal cuts the station, part",
-    "the output is too short, words of the sheet"};
+    "the output is too short, words of the sheet", "the discount is above 10,000, namely"};
 
 int main(void)
 {
     /* Three parts, source 0 and analyser 2; cables 0-1, 1-2 and 0-2. */
     const uint32_t list[] = {0x10030003, 0x20000002, 0x30000001, 0x30001002, 0x30000002};
-    uint32_t sheet[DOVRANIS_MOST_WORDS];
+    const uint32_t discount = 1250; /* 12.5 percent; dovranis_draw takes none and writes no bill */
+    uint32_t sheet[DOVRANIS_MOST_QUOTED_WORDS];
+    const size_t count = sizeof list / sizeof *list, cables = count - 2;
     size_t words, crossings, place, i;
-    uint32_t result = dovranis_draw(list, sizeof list / sizeof *list, sheet, DOVRANIS_MOST_WORDS,
-                                    &words, &crossings, &place);
+    uint32_t result = dovranis_draw_quoted(list, count, sheet, DOVRANIS_MOST_QUOTED_WORDS, discount,
+                                           &words, &crossings, &place);
     if (result != 0) {
         printf("refused by check %u: %s %zu\n", (unsigned)result, refusals[result], place);
         return 1;
     }
     printf("%zu words, %zu crossings\n", words, crossings);
     for (i = 0; i < words; i++) {
-        unsigned first = sheet[i] >> 12 & 0xfff, second = sheet[i] & 0xfff;
+        unsigned first = sheet[i] >> 12 & 0xfff, second = sheet[i] & 0xfff, whole = sheet[i] & 0xfffffff;
         switch (sheet[i] >> 28) {
         case 4: printf("width %u, height %u\n", first, second); break;
         case 5: printf("part %zu at (%u,%u)\n", i - 1, first, second); break;
         case 6: printf("cable %u, %u corners\n", (unsigned)(sheet[i] >> 12 & 0xffff), second); break;
         case 8: printf("cable %u, %u steps\n", (unsigned)(sheet[i] >> 12 & 0xffff), second); break;
-        case 10: printf("%u steps in all\n", (unsigned)(sheet[i] & 0xfffffff)); break;
+        case 10: printf("%u steps in all\n", whole); break;
+        case 0:
+            if (i + 1 < words) printf("cable %zu, %u cents\n", i + cables + 1 - words, whole);
+            else printf("%u cents in all\n", whole);
+            break;
         default: printf("  corner (%u,%u)\n", first, second);
         }
     }

@@ -13,10 +13,12 @@
  *   4  sheet head: width, height         7  a corner's x, y
  *   8  length: line in bits 27 to 12, grid steps along that cable's line
  *  10  total: grid steps of all cables in bits 27 to 0
+ *   0  price of a cable, or of all: cents in bits 27 to 0
  *
  * A list is one head, one ends word and m cables. A sheet is its head, the parts by number, then the
  * cables by line, each followed by its corners from the lower-ranked end upward, then the lengths by
- * line and their total.
+ * line and their total. A call that is given a discount ends it with the bill: the prices by line and
+ * their total.
  */
 #ifndef DOVRANIS_H
 #define DOVRANIS_H
@@ -29,12 +31,20 @@ extern "C" {
 #endif
 
 /* An output of so many words is long enough for the sheet of every list: with it, or with a longer
- * one, refusal 11 never comes (the law `never-11` in crates/exports/proofs/Calls.antt), and a longer
- * one changes no answer (`room-ample` in Bounds.antt, there too). Some stations need them all. */
+ * one, refusal 11 never comes (the law `plain-never-11` in crates/exports/proofs/Calls.antt), and a
+ * longer one changes no answer (`room-ample` in crates/hookup/proofs/Ample.antt). Some stations need
+ * them all. */
 #define DOVRANIS_MOST_WORDS 1798
 
 /* DOVRANIS_MOST_WORDS, for programs that do not read this header. */
 size_t dovranis_most_words(void);
+
+/* The same for sheets that end with a bill: with an output of so many words, or of more,
+ * dovranis_draw_quoted never gives refusal 11 (`quoted-never-11`). Some stations need them all. */
+#define DOVRANIS_MOST_QUOTED_WORDS 2311
+
+/* DOVRANIS_MOST_QUOTED_WORDS, for programs that do not read this header. */
+size_t dovranis_most_quoted_words(void);
 
 /* Draws the sheet of a list into the output `sheet`, or says why the list is sent back.
  *
@@ -94,6 +104,37 @@ size_t dovranis_most_words(void);
  */
 uint32_t dovranis_draw(const uint32_t *list, size_t list_count, uint32_t *sheet, size_t sheet_count,
                        size_t *words, size_t *crossings, size_t *place);
+
+/* Draws the sheet of a list for a customer with a discount, in hundredths of a percent: the sheet of
+ * dovranis_draw and behind it the bill. Every discount is answered; 0 gives a bill of full prices and
+ * 10,000 one of zeros.
+ *
+ * The result is 0 for a sheet, and else the number of the check that refuses, 1 to 12. It, and all that
+ * is stored, depends on the words of the list, on sheet_count and on the discount alone.
+ *
+ * 0, a sheet: as dovranis_draw says, with these m + 1 words of kind 0 behind the total of the lengths,
+ * and no word more; *words counts them, and is at most DOVRANIS_MOST_QUOTED_WORDS.
+ *   - By line, the price of each cable: that of the shortest ready length that covers the steps in the
+ *     cable's own word of kind 8 on this sheet. There are ready lengths of 2, 3, 4, 6, 8, 12, 16, 24,
+ *     32, 48, 64, 96, 128, 192, 256, 384, 512, 768, 1,024, 1,536 and 2,048 steps. One costs 900 cents
+ *     and 35 cents a step, so that no cheaper one covers these steps. The discount comes off this
+ *     price, and what remains is rounded once to the cent, half a cent upward: of a price of 970 cents
+ *     a discount of 500, which is 5 percent, leaves 921.5 cents, and the word says 922.
+ *   - The total: the sum of these prices.
+ *
+ * 1 to 12, a refusal: as dovranis_draw says, and
+ *
+ *   number  condition                                                             place
+ *   11      sheet_count is less than the sheet has words, the bill's too          words of the sheet
+ *   12      the discount is above 10,000                                          the discount
+ *
+ * Check 12 is made first, before the list is looked at; then come checks 1 to 11.
+ *
+ * What dovranis_draw says of the caller's memory, and what the caller sees to, holds of this call too.
+ */
+uint32_t dovranis_draw_quoted(const uint32_t *list, size_t list_count, uint32_t *sheet,
+                              size_t sheet_count, uint32_t discount, size_t *words,
+                              size_t *crossings, size_t *place);
 
 #ifdef __cplusplus
 }

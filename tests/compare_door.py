@@ -1,13 +1,16 @@
 #!/usr/bin/env python3
 """Calls the library through its C form, beside reference.py, and compares the result, the numbers, the words written and every word around them.
 
-  compare_door.py [COUNT [SEED]]     COUNT lists (default 100000), each with several lengths of output; then lists of a million words and null pointers
+  compare_door.py [COUNT [SEED]]     COUNT lists (default 100000), each with several lengths of output, without a discount and with one, and with one that
+                                     is too large; then lists of a million words and null pointers
+  compare_door.py --baseline ..      the same calls of baseline.c in place of the library
 
 List, output and numbers lie in one block of random bytes, with spare words between them; the whole block is compared after each call.
 It is no part of the gate."""
 import ctypes
 import random
 import sys
+import tempfile
 import threading
 import time
 
@@ -27,10 +30,11 @@ def packed(words):
 
 class Comparison:
     def __init__(self, lib, rng):
-        self.lib, self.rng, self.most = lib, rng, lib.most_words()
-        self.tally, self.calls, self.wrong, self.longest = {}, 0, 0, 0
+        self.lib, self.rng = lib, rng
+        self.most, self.most_quoted = door.header()
+        self.tally, self.calls, self.wrong, self.longest, self.longest_quoted = {}, 0, 0, 0, 0
 
-    def call(self, words, data, room, full, null_list=False, null_output=False):
+    def call(self, words, data, room, full, discount=None, null_list=False, null_output=False):
         """One call; full is the answer for an output that is long enough."""
         due = ('refused', 11, len(full[1])) if full[0] == 'sheet' and room < len(full[1]) else full
         sheet = LIST + len(data) + SPARE
@@ -38,7 +42,9 @@ class Comparison:
         block = bytearray(before)
         at = ctypes.addressof(ctypes.c_char.from_buffer(block))
         assert at % 8 == 0
-        result = self.lib.call(None if null_list else at + LIST, len(words), None if null_output else at + sheet, room, at + WORDS, at + CROSSINGS, at + PLACE)
+        rows = None if null_list else at + LIST, len(words), None if null_output else at + sheet, room
+        numbers = at + WORDS, at + CROSSINGS, at + PLACE
+        result = self.lib.call(*rows, *numbers) if discount is None else self.lib.quoted(*rows, discount, *numbers)
         after = bytearray(before)
         if due[0] == 'sheet':
             number, written = 0, packed(due[1])
@@ -48,26 +54,43 @@ class Comparison:
         else:
             number = due[1]
             after[PLACE:PLACE + 8] = due[2].to_bytes(8, 'little')
-        name = 'refused %2d' % number if number else 'sheet'
+        name = ('refused %2d' % number if number else 'sheet') + ('' if discount is None else ', with a discount')
         self.tally[name] = self.tally.get(name, 0) + 1
         self.calls += 1
         if result != number or block != after:
             self.wrong += 1
             if self.wrong <= 3:
-                print('differs: result %d, due %s; output of %d; list of %d words %s' % (result, due[:1] + due[-1:], room, len(words), ' '.join('%08x' % w for w in words[:40])))
+                print('differs: result %d, due %s; output of %d; discount %s; list of %d words %s' % (
+                    result, due[:1] + due[-1:], room, discount, len(words), ' '.join('%08x' % w for w in words[:40])))
 
-    def compare(self, words):
-        """The list with output lengths of 0, one less, exact, one more and far more; where there is no sheet, with 0, a few and far more."""
+    def far(self, most):
+        return self.rng.choice([most, most + 1, self.rng.randint(most, 3000)])
+
+    def compare(self, words, discount):
+        """The list with output lengths of 0, one less, exact, one more and far more; where there is no sheet, with 0, a few and far more. The same with
+        this discount, and also with room for no bill; and once with a discount that is too large."""
         data, full = packed(words), reference.answer(words)
-        far = self.rng.choice([self.most, self.most + 1, self.rng.randint(self.most, 3000)])
+        size = 0
         if full[0] == 'sheet':
             size = len(full[1])
             self.longest = max(self.longest, size)
-            rooms = [0, size - 1, size, size + 1, far]
+            rooms = [0, size - 1, size, size + 1, self.far(self.most)]
         else:
-            rooms = [0, self.rng.randint(1, 40), far]
+            rooms = [0, self.rng.randint(1, 40), self.far(self.most)]
         for room in rooms:
             self.call(words, data, room, full)
+
+        quoted = reference.answer(words, None, discount)
+        if quoted[0] == 'sheet':
+            with_bill = len(quoted[1])
+            self.longest_quoted = max(self.longest_quoted, with_bill)
+            rooms = [0, size, with_bill - 1, with_bill, with_bill + 1, self.far(self.most_quoted)]
+        else:
+            rooms = [self.rng.randint(0, 40), self.far(self.most_quoted)]
+        for room in rooms:
+            self.call(words, data, room, quoted, discount)
+        bad = lists.bad_discount(self.rng)
+        self.call(words, data, self.rng.choice([0, size, self.far(self.most_quoted)]), reference.answer(words, None, bad), bad)
 
 
 # Lists
@@ -143,45 +166,59 @@ def million(rng):
 
 
 def main(a):
+    if a[:1] == ['--baseline']:
+        with tempfile.TemporaryDirectory() as folder:
+            return compare_all(a[1:], door.baseline(folder), True)
+    lib = door.load(door.build())
+    return compare_all(a, lib, door.agree(lib))
+
+
+def compare_all(a, lib, good):
     count = int(a[0]) if a else 100000
     rng = random.Random(int(a[1]) if len(a) > 1 else 1)
-    lib = door.load(door.build())
-    good = door.agree(lib)
     began = time.time()
     c = Comparison(lib, rng)
 
-    named = lists.boundaries()
-    for _, words in named:
-        c.compare(words)
+    named = lists.boundaries() + [('a cable of %d steps' % steps, words) for steps, words in lists.runs()]
+    for k, (_, words) in enumerate(named):
+        c.compare(words, lists.GOOD[k % len(lists.GOOD)])
+    for discount in lists.DISCOUNTS:
+        for _, words in named:
+            if len(words) < 20:
+                c.compare(words, discount)
     for _ in range(count):
-        c.compare(any_list(rng))
-    print('%d lists, and %d with a name; the longest sheet has %d words; %.0f s' % (count, len(named), c.longest, time.time() - began))
+        c.compare(any_list(rng), lists.good_discount(rng))
+    print('%d lists, and %d with a name; the longest sheet has %d words, with a bill %d; %.0f s' % (
+        count, len(named), c.longest, c.longest_quoted, time.time() - began))
 
     began, calls = time.time(), c.calls
     for words in million(rng):
-        c.compare(words)
+        c.compare(words, lists.good_discount(rng))
     triangle = lists.build(3, 0, 2, [(0, 1), (1, 2), (0, 2)])
     c.call(triangle, packed(triangle), 10000000, reference.answer(triangle))
+    c.call(triangle, packed(triangle), 10000000, reference.answer(triangle, None, 500), 500)
     print('lists of 65,537 and of a million words, and an output of ten million: %d calls, %.0f s' % (c.calls - calls, time.time() - began))
 
     # a count of 0 with a null pointer
     calls = c.calls
-    for room in (0, 1, 100):
-        c.call([], b'', room, reference.answer([]), null_list=True)
-    c.call([], b'', 0, reference.answer([]), null_list=True, null_output=True)
-    for words in (triangle, triangle[:-1], [0, 0]):
-        c.call(words, packed(words), 0, reference.answer(words), null_output=True)
+    for discount in [None] + lists.DISCOUNTS:
+        none = reference.answer([], None, discount)
+        for room in (0, 1, 100):
+            c.call([], b'', room, none, discount, null_list=True)
+        c.call([], b'', 0, none, discount, null_list=True, null_output=True)
+        for words in (triangle, triangle[:-1], [0, 0]):
+            c.call(words, packed(words), 0, reference.answer(words, None, discount), discount, null_output=True)
     print('null pointers with a count of 0: %d calls' % (c.calls - calls))
 
     # the largest stations, on the stack that the header asks for
     calls = c.calls
     threading.stack_size(STACK)
-    large = [words for name, words in named if '256 parts' in name]
-    answers = [reference.answer(words) for words in large]
+    large = [(words, room, reference.answer(words, None, discount), discount)
+             for name, words in named if '256 parts' in name for room, discount in ((c.most, None), (c.most_quoted, 1250))]
 
     def small():
-        for words, full in zip(large, answers):
-            c.call(words, packed(words), c.most, full)
+        for words, room, full, discount in large:
+            c.call(words, packed(words), room, full, discount)
 
     thread = threading.Thread(target=small)
     thread.start()
@@ -192,7 +229,7 @@ def main(a):
     for name in sorted(c.tally):
         print('%8d %s' % (c.tally[name], name))
     print('%d calls, %d differ' % (c.calls, c.wrong))
-    return c.wrong > 0 or not good or c.longest != c.most
+    return c.wrong > 0 or not good or (c.longest, c.longest_quoted) != (c.most, c.most_quoted)
 
 
 if __name__ == '__main__':

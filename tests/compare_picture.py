@@ -86,7 +86,7 @@ class Comparison:
         self.bad = []
         self.root = ElementTree.fromstring(svg)
         self.n, self.s, self.t, self.cables = reference.station(words)
-        _, _, self.height, self.parts, self.corners, self.lengths, _ = reference.read_sheet(words, sheet)
+        _, _, self.height, self.parts, self.corners, self.lengths, _, _ = reference.read_sheet(words, sheet)
         self.points = [self.points_of(line) for line in range(len(self.cables))]
         self.step = float(self.root.get('data-step'))
         self.named = {e.get('id'): e for e in self.root.iter() if e.get('id')}

@@ -1,10 +1,12 @@
 #!/usr/bin/env python3
 """The library as programs in C see it: the archive of the crate `exports`, linked as a shared object and called by ctypes.
 
-  door.py       proves and builds the archive, compiles the header as C99 and as C++, compares its constant with the library's, and draws one sheet
+  door.py       proves and builds the archive, compiles the header as C99 and as C++, compares its constants with the library's, and draws one sheet,
+                without a discount and with one
 
   import door; lib = door.load(door.build())
   lib.draw(list_words, output_words) -> (result, words, crossings, place, output after)
+  lib.draw_quoted(list_words, output_words, discount) -> the same
 
 It is no part of the gate."""
 import array
@@ -18,7 +20,7 @@ ARCHIVE = os.path.join(TOP, 'target', 'staticlib', 'libexports.a')
 SHARED = os.path.join(TOP, 'target', 'staticlib', 'libexports.so')
 INCLUDE = os.path.join(TOP, 'include')
 
-POINTER, SIZE = ctypes.c_void_p, ctypes.c_size_t
+POINTER, SIZE, NUMBER = ctypes.c_void_p, ctypes.c_size_t, ctypes.c_uint32
 WARNED = ['-Wall', '-Wextra', '-Wpedantic', '-Werror']
 COMPILERS = (['cc', '-std=c99', '-x', 'c'], ['g++', '-std=c++98', '-x', 'c++'], ['g++', '-std=c++17', '-x', 'c++'])
 
@@ -38,48 +40,69 @@ def build():
 
 
 def header():
-    """Compiles the header alone, warnings as errors; the value of its constant."""
+    """Compiles the header alone, warnings as errors; the values of its constants."""
     text = '#include "dovranis.h"\n'
     for compiler in COMPILERS:
         run(compiler + WARNED + ['-I', INCLUDE, '-c', '-o', os.devnull, '-'], input=text)
-    return int(run(['cc', '-E', '-P', '-I', INCLUDE, '-'], input=text + 'DOVRANIS_MOST_WORDS\n').split()[-1])
+    shown = run(['cc', '-E', '-P', '-I', INCLUDE, '-'], input=text + 'DOVRANIS_MOST_WORDS DOVRANIS_MOST_QUOTED_WORDS\n')
+    return tuple(map(int, shown.split()[-2:]))
 
 
 class Door:
-    def __init__(self, path):
+    def __init__(self, path, name='dovranis'):
         lib = ctypes.CDLL(path)
-        self.call = lib.dovranis_draw
-        self.call.restype = ctypes.c_uint32
-        self.call.argtypes = [POINTER, SIZE, POINTER, SIZE, POINTER, POINTER, POINTER]
-        self.most_words = lib.dovranis_most_words
-        self.most_words.restype = SIZE
-        self.most_words.argtypes = []
+
+        def function(what, result, *arguments):
+            found = getattr(lib, name + what)
+            found.restype, found.argtypes = result, arguments
+            return found
+
+        self.call = function('_draw', NUMBER, POINTER, SIZE, POINTER, SIZE, POINTER, POINTER, POINTER)
+        self.quoted = function('_draw_quoted', NUMBER, POINTER, SIZE, POINTER, SIZE, NUMBER, POINTER, POINTER, POINTER)
+        if name == 'dovranis':
+            self.most_words = function('_most_words', SIZE)
+            self.most_quoted_words = function('_most_quoted_words', SIZE)
+
+    def asked(self, call, list_words, output_words, more, lent):
+        given, output = array.array('I', list_words), array.array('I', output_words)
+        words, crossings, place = numbers = [SIZE(k) for k in lent]
+        result = call(given.buffer_info()[0], len(given), output.buffer_info()[0], len(output), *more, *map(ctypes.addressof, numbers))
+        return result, words.value, crossings.value, place.value, list(output)
 
     def draw(self, list_words, output_words, lent=(0, 0, 0)):
         """The call on copies of these words, with numbers lent that hold these values."""
-        given, output = array.array('I', list_words), array.array('I', output_words)
-        words, crossings, place = numbers = [SIZE(k) for k in lent]
-        result = self.call(given.buffer_info()[0], len(given), output.buffer_info()[0], len(output), *map(ctypes.addressof, numbers))
-        return result, words.value, crossings.value, place.value, list(output)
+        return self.asked(self.call, list_words, output_words, (), lent)
+
+    def draw_quoted(self, list_words, output_words, discount, lent=(0, 0, 0)):
+        """The call that is given a discount, as `draw`."""
+        return self.asked(self.quoted, list_words, output_words, (discount,), lent)
 
 
 def load(path):
     return Door(path)
 
 
+def baseline(folder):
+    """baseline.c as a shared object in this folder, called in the same way."""
+    path = os.path.join(folder, 'baseline.so')
+    run(['cc', '-O3', '-shared', '-fPIC', '-o', path, os.path.join(TOP, 'tests', 'baseline.c')])
+    return Door(path, 'baseline')
+
+
 def agree(lib):
-    """Whether the header compiles and has the library's constant."""
-    said, has = header(), lib.most_words()
-    print('the header compiles as C99 and as C++; its constant is %d, the library\'s %d' % (said, has))
+    """Whether the header compiles and has the library's constants."""
+    said, has = header(), (lib.most_words(), lib.most_quoted_words())
+    print('the header compiles as C99 and as C++; its constants are %d and %d, the library\'s %d and %d' % (said + has))
     return said == has
 
 
 def main():
     lib = load(build())
     triangle = [0x10030003, 0x20000002, 0x30000001, 0x30001002, 0x30000002]
-    *numbers, output = lib.draw(triangle, 14 * [0xa5a5a5a5])
-    print('triangle: result %d, words %d, crossings %d, place %d' % tuple(numbers))
-    print(' '.join('%08x' % w for w in output))
+    for what, (*numbers, output) in (('triangle', lib.draw(triangle, 18 * [0xa5a5a5a5])),
+                                     ('with a discount of 1,250', lib.draw_quoted(triangle, 18 * [0xa5a5a5a5], 1250))):
+        print('%s: result %d, words %d, crossings %d, place %d' % (what, *numbers))
+        print(' '.join('%08x' % w for w in output))
     return not agree(lib)
 
 

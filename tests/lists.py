@@ -670,6 +670,63 @@ def boundaries():
     return out
 
 
+# Runs and discounts.
+
+READY = sorted([2 << k for k in range(11)] + [3 << k for k in range(10)])
+
+
+def with_run(steps):
+    """A list whose sheet has a cable of so many steps, 1 to 763."""
+    if steps < 4:
+        return build(4, 0, 2, [(0, 1), (1, 2), (2, 3), (3, 0)])
+    if steps < 20:
+        n, cables = ring(steps - 1)
+    else:
+        # 3n - 5 steps. With a cable less there is a column less: left of t, which
+        # makes one level run a step shorter, or right of t, which makes both.
+        n, cables = long_cable((steps + 7) // 3)
+        cables -= [set(), {(n - 4, n - 3)}, {(3, 4)}][3 * n - 5 - steps]
+    return build(n, 0, n - 1, sorted(cables))
+
+
+def runs():
+    """(steps, list) around each ready length up to 512: a cable that is a step
+    shorter, as long, and a step longer; then the longest that is known."""
+    around = {ready + k for ready in READY if ready <= 512 for k in (-1, 0, 1)}
+    return [(steps, with_run(steps)) for steps in sorted(around | {763})]
+
+
+def halves(ready):
+    """The discounts that leave half a cent of a ready length's price. For some
+    lengths there is none."""
+    return [d for d in range(10001) if (900 + 35 * ready) * (10000 - d) % 10000 == 5000]
+
+
+HALVES = {ready: halves(ready) for ready in READY}
+GOOD = [0, 1, 5, 499, 500, 501, 1250, 4999, 5000, 9999, 10000]
+BAD = [10001, 65535, 65536, 75536, 1 << 31, (1 << 32) - 10000, (1 << 32) - 1]
+DISCOUNTS = GOOD + BAD
+
+
+def good_discount(rng):
+    """A discount that passes check 12, now and then one that leaves half a cent."""
+    way = rng.randrange(4)
+    if way == 0:
+        return rng.choice(GOOD)
+    if way == 1:
+        return rng.choice(HALVES[rng.choice([ready for ready in READY if HALVES[ready]])])
+    return rng.randint(0, 10000)
+
+
+def bad_discount(rng):
+    return rng.choice([rng.choice(BAD), rng.randint(10001, 20000), rng.randint(10001, (1 << 32) - 1)])
+
+
+def discount(rng):
+    """Any number of 32 bits; one in five fails check 12."""
+    return (bad_discount if rng.random() < 0.2 else good_discount)(rng)
+
+
 def files():
     """(name, bytes, first line due) about the length of a file."""
     triangle = b''.join(w.to_bytes(4, 'big')

@@ -1,9 +1,10 @@
 #!/usr/bin/env python3
-"""Writes the stored lists of the program `cases` (crates/cases/stdin) and, from reference.py, what it must print (crates/cases/stdout).
+"""Writes the stored calls of the program `cases` (crates/cases/stdin) and, from reference.py, what it must print (crates/cases/stdout).
 
   make_cases.py [SEED]
 
-stdin: for each list the count of its words and the words, each most significant byte first. stdout: see `expected`."""
+stdin: for each call the count of its list's words, 1 if a discount is given and else 0, the discount or 0, and the list's words; all of these are words of
+32 bits, each most significant byte first. stdout: see `expected`."""
 import os
 import random
 import struct
@@ -24,6 +25,11 @@ WORKED = (
     '10040005 20000002 30000001 30000003 30001003 30001002 30000002',
     '1005000a 20000004 30000001 30000002 30000003 30000004 30001002 30001003 30001004 30002003 30002004 30003004')
 
+DISCOUNTS = (0, 5, 500, 1250, 10000, 10001, 4294967295)
+
+# the program takes 131,072 bytes
+MOST_BYTES = 120000
+
 
 def shape(words):
     """How many cables s and t have."""
@@ -31,9 +37,12 @@ def shape(words):
     return sum(s in c for c in cables), sum(t in c for c in cables)
 
 
-def chosen(seed):
-    rng = random.Random(seed)
-    out = [[int(w, 16) for w in row.split()] for row in WORKED]
+def worked():
+    return [reference.hexes(row) for row in WORKED]
+
+
+def without_discount(rng):
+    out = worked()
     out += [words for name, words in lists.boundaries() if not name.startswith('sheet, 256 parts') or name in LARGE]
     wanted = {(a, b): 11 for a in (2, 3, 4) for b in (2, 3, 4)}
     while any(wanted.values()):
@@ -41,7 +50,22 @@ def chosen(seed):
         if wanted[shape(words)]:
             wanted[shape(words)] -= 1
             out.append(words)
-    return out + [lists.refused(rng) for _ in range(40)]
+    out += [lists.refused(rng) for _ in range(40)]
+    return [(words, None) for words in out]
+
+
+def with_discount(rng):
+    """The worked stations; a cable as long as each ready length up to 512, and one a step longer; an example of each check; the largest stations; random ones."""
+    out = [(words, d) for words in worked() for d in DISCOUNTS]
+    for ready, longer in zip(lists.READY, lists.READY[1:]):
+        if ready <= 512:
+            out += [(lists.with_run(ready), 0), (lists.with_run(ready + 1), rng.choice(lists.HALVES[longer] or [1250]))]
+    for text, _, (check, _) in reference.REFUSALS:
+        if check <= 10:
+            out += [(reference.hexes(text), lists.good_discount(rng)), (reference.hexes(text), lists.bad_discount(rng))]
+    large = dict(lists.boundaries())
+    out += [(large[name], d) for name, d in zip(LARGE, (1250, 5, 0))]
+    return out + [(lists.drawn(rng, 3, 40), lists.good_discount(rng)) for _ in range(40)]
 
 
 def line(answer):
@@ -50,29 +74,43 @@ def line(answer):
     return 'refused %d %d' % answer[1:]
 
 
-def expected(words):
+def expected(words, discount):
     """With room to spare: the answer, the sheet's words, and that what lies behind is as it was. Of a sheet also: the answer and the words with the
     exact room, and the answer with one word less. Of a refusal also: the answer with no room."""
-    spare = reference.answer(words, None)
+    spare = reference.answer(words, None, discount)
     if spare[0] != 'sheet':
-        return [line(spare), 'kept', line(reference.answer(words, 0)), 'kept']
+        return [line(spare), 'kept', line(reference.answer(words, 0, discount)), 'kept']
     k = len(spare[1])
     return ([line(spare)] + ['%08x' % w for w in spare[1]] + ['kept']
-            + [line(reference.answer(words, k)), 'same']
-            + [line(reference.answer(words, k - 1)), 'kept'])
+            + [line(reference.answer(words, k, discount)), 'same']
+            + [line(reference.answer(words, k - 1, discount)), 'kept'])
+
+
+def say(what, calls):
+    sheets = [got for got in (reference.answer(words, None, d) for words, d in calls) if got[0] == 'sheet']
+    most = max(len(got[1]) for got in sheets)
+    print('%s: %d calls, %d drawn, the longest sheet has %d words' % (what, len(calls), len(sheets), most))
+    return most
 
 
 def main(a):
-    rows = chosen(int(a[0]) if a else 1)
-    os.makedirs(CRATE, exist_ok=True)
+    rng = random.Random(int(a[0]) if a else 1)
+    plain, quoted = without_discount(rng), with_discount(rng)
+    most = say('without a discount', plain), say('with one', quoted)
+    if most != (1798, 2311):
+        sys.exit('the longest sheets should have 1798 and 2311 words')
+    data, text = b'', []
+    for words, d in plain + quoted:
+        data += struct.pack('>%dI' % (len(words) + 3), len(words), d is not None, d or 0, *words)
+        text += expected(words, d)
+    if len(data) > MOST_BYTES:
+        sys.exit('%d bytes are too many' % len(data))
     with open(os.path.join(CRATE, 'stdin'), 'wb') as f:
-        for words in rows:
-            f.write(struct.pack('>%dI' % (len(words) + 1), len(words), *words))
+        f.write(data)
     with open(os.path.join(CRATE, 'stdout'), 'w') as f:
-        for words in rows:
-            f.write('\n'.join(expected(words)) + '\n')
-    drawn = sum(reference.answer(w, None)[0] == 'sheet' for w in rows)
-    print('%d lists, %d drawn, %d words' % (len(rows), drawn, sum(map(len, rows))))
+        f.write('\n'.join(text) + '\n')
+    print('%d calls, %d bytes' % (len(plain + quoted), len(data)))
 
 
-main(sys.argv[1:])
+if __name__ == '__main__':
+    main(sys.argv[1:])

@@ -3,12 +3,13 @@
 
   measure.py [WORD..]              a line for each list whose name has all the words: instructions and time of both, and the ratios
   measure.py --markdown [WORD..]   the same as a table for docs/PERFORMANCE.md
+  measure.py --quoted [WORD..]     as a table: instructions of both, without a discount and with one (`dovranis_draw_quoted`), and what a cable's price takes
   measure.py --functions [WORD..]  where the instructions go, on stations of 256 parts
   measure.py --passes [WORD..]     instructions on stations of 256 parts, with baseline.c in its simpler form too: a depth-first pass at each rank
   measure.py --program             instructions of the program target/bin/sheet (made by `rt check sheet`) and of baseline.c as a program
-  --archive FILE                   takes this archive, and neither proves nor builds one
+  --archive FILE                   takes this archive, and neither proves nor builds one; it may be without `dovranis_draw_quoted`, but for --quoted
 
-It needs cc, objdump and valgrind. Instructions are callgrind's, of one call and all that it calls. Time is the best of many rounds, a round being
+It needs cc, nm, objdump and valgrind. Instructions are callgrind's, of one call and all that it calls. Time is the best of many rounds, a round being
 as many calls as take 20 microseconds; the two have four rounds each in turn. Both answers are compared. It is no part of the gate."""
 import math
 import os
@@ -24,6 +25,8 @@ import reference
 
 HERE = os.path.dirname(os.path.abspath(__file__))
 PROGRAM = os.path.join(door.TOP, 'target', 'bin', 'sheet')
+ROOM = 4096                     # words of output, more than any sheet has
+DISCOUNT = 1250
 SWEEPS, SECONDS = 10, 0.1       # over all lists, so that a busy minute of the machine spoils no list's best; for one list in a sweep, both calls together
 
 DRIVER = r'''
@@ -33,17 +36,29 @@ DRIVER = r'''
 #include <time.h>
 #include "dovranis.h"
 
-typedef uint32_t call(const uint32_t *, size_t, uint32_t *, size_t, size_t *, size_t *, size_t *);
-call baseline_draw;
+typedef uint32_t plain(const uint32_t *, size_t, uint32_t *, size_t, size_t *, size_t *, size_t *);
+typedef uint32_t quoted(const uint32_t *, size_t, uint32_t *, size_t, uint32_t, size_t *, size_t *, size_t *);
+plain baseline_draw;
+quoted baseline_draw_quoted;
 
-struct answer { uint32_t result, sheet[2048]; size_t words, crossings, place; };
+struct answer { uint32_t result, sheet[4096]; size_t words, crossings, place; };
 
-static uint32_t *list;
+static uint32_t *list, discount;
 static size_t count, room;
 
-static void ask(call *draw, struct answer *a) {
-    a->result = draw(list, count, a->sheet, room, &a->words, &a->crossings, &a->place);
-}
+typedef void call(struct answer *);
+
+static void ask(plain *draw, struct answer *a) { a->result = draw(list, count, a->sheet, room, &a->words, &a->crossings, &a->place); }
+static void ask_quoted(quoted *draw, struct answer *a) { a->result = draw(list, count, a->sheet, room, discount, &a->words, &a->crossings, &a->place); }
+
+static void ours_plain(struct answer *a) { ask(dovranis_draw, a); }
+static void theirs_plain(struct answer *a) { ask(baseline_draw, a); }
+static void theirs_quoted(struct answer *a) { ask_quoted(baseline_draw_quoted, a); }
+#ifdef QUOTED
+static void ours_quoted(struct answer *a) { ask_quoted(dovranis_draw_quoted, a); }
+#else
+#define ours_quoted NULL
+#endif
 
 static double now(void) {
     struct timespec t;
@@ -54,7 +69,7 @@ static double now(void) {
 static double seconds(call *draw, long calls) {
     static struct answer a;
     double from = now();
-    for (long k = 0; k < calls; k++) ask(draw, &a);
+    for (long k = 0; k < calls; k++) draw(&a);
     return now() - from;
 }
 
@@ -64,10 +79,10 @@ static long calls_of_a_round(call *draw) {
     return calls;
 }
 
-/* FILE ROOM ours | FILE ROOM baseline | FILE ROOM SECONDS */
+/* FILE ROOM ours|baseline|SECONDS [DISCOUNT] */
 int main(int argc, char **argv) {
     static struct answer ours, theirs;
-    if (argc != 4) return 2;
+    if (argc != 4 && argc != 5) return 2;
     FILE *f = fopen(argv[1], "rb");
     fseek(f, 0, SEEK_END);
     count = ftell(f) / 4;
@@ -75,11 +90,16 @@ int main(int argc, char **argv) {
     list = malloc(4 * count + 4);
     if (fread(list, 4, count, f) != count) return 2;
     room = atol(argv[2]);
-    if (!strcmp(argv[3], "ours")) { ask(dovranis_draw, &ours); return 0; }
-    if (!strcmp(argv[3], "baseline")) { ask(baseline_draw, &theirs); return 0; }
-    ask(dovranis_draw, &ours);
-    ask(baseline_draw, &theirs);
-    call *draws[2] = {dovranis_draw, baseline_draw};
+    call *draws[2] = {ours_plain, theirs_plain};
+    if (argc == 5) {
+        discount = strtoul(argv[4], NULL, 10);
+        draws[0] = ours_quoted;
+        draws[1] = theirs_quoted;
+    }
+    if (!strcmp(argv[3], "ours")) { draws[0](&ours); return 0; }
+    if (!strcmp(argv[3], "baseline")) { draws[1](&theirs); return 0; }
+    draws[0](&ours);
+    draws[1](&theirs);
     double best[2] = {1, 1}, until = now() + atof(argv[3]);
     long calls[2] = {calls_of_a_round(draws[0]), calls_of_a_round(draws[1])};
     for (long turns = 0; turns < 4 || now() < until; turns++)
@@ -128,7 +148,7 @@ def stations(sizes=(16, 64, 256)):
             rng = random.Random(name)
             _, cables = make(rng, n)
             for numbers in NUMBERS:
-                yield '%s, %s' % (name, numbers), numbered(rng, n, cables, numbers), 2048
+                yield '%s, %s' % (name, numbers), numbered(rng, n, cables, numbers), ROOM
 
 
 def hung(rng, sizes):
@@ -151,19 +171,19 @@ def refusals():
     def full(n, cables, last=()):
         return [lists.head(n, most), lists.ends(0, 1)] + (list(cables) + list(last))[:most]
 
-    yield 'refused 1', [lists.head(3, 0)], 2048
-    yield 'refused 2', [lists.head(256, most), lists.ends(0, 1)] + long[:999997] + [0x40000000], 2048
-    yield 'refused 3', [lists.head(256, most), lists.ends(0, 1)] + long[:999998], 2048
-    yield 'refused 4', full(257, long[:most]), 2048
-    yield 'refused 5', full(256, long[:most - 1], [lists.cable(0, 256)]), 2048
-    yield 'refused 6', full(256, long[:most - 1], [lists.cable(255, 255)]), 2048
+    yield 'refused 1', [lists.head(3, 0)], ROOM
+    yield 'refused 2', [lists.head(256, most), lists.ends(0, 1)] + long[:999997] + [0x40000000], ROOM
+    yield 'refused 3', [lists.head(256, most), lists.ends(0, 1)] + long[:999998], ROOM
+    yield 'refused 4', full(257, long[:most]), ROOM
+    yield 'refused 5', full(256, long[:most - 1], [lists.cable(0, 256)]), ROOM
+    yield 'refused 6', full(256, long[:most - 1], [lists.cable(255, 255)]), ROOM
     pairs = [lists.cable(a, b) for a, b in sorted(lists.complete(256)[1])]
-    yield 'refused 7', full(256, pairs + pairs + pairs), 2048
-    yield 'refused 8', [lists.head(256, len(pairs)), lists.ends(0, 1)] + pairs, 2048
+    yield 'refused 7', full(256, pairs + pairs + pairs), ROOM
+    yield 'refused 8', [lists.head(256, len(pairs)), lists.ends(0, 1)] + pairs, ROOM
     n, cables = lists.four_regular(rng, 251)
-    yield 'refused 9', lists.build(256, 0, 1, sorted(cables) + [(n + a, n + b) for a, b in sorted(lists.complete(5)[1])]), 2048
+    yield 'refused 9', lists.build(256, 0, 1, sorted(cables) + [(n + a, n + b) for a, b in sorted(lists.complete(5)[1])]), ROOM
     n, cables = hung(rng, (128, 127))
-    yield 'refused 10', lists.build(n, 0, 1, sorted(cables)), 2048
+    yield 'refused 10', lists.build(n, 0, 1, sorted(cables)), ROOM
     n, cables = lists.four_regular(rng, 256)
     yield 'refused 11', lists.build(n, 0, 255, sorted(cables)), 1797
 
@@ -177,6 +197,9 @@ def chosen(rows, asked):
 class Driver:
     def __init__(self, folder, archive, flags=()):
         self.folder, self.program = folder, os.path.join(folder, 'driver')
+        symbols = subprocess.run(['nm', archive], check=True, stdout=subprocess.PIPE, text=True).stdout
+        self.has_quoted = ' T dovranis_draw_quoted\n' in symbols
+        flags = [*flags, '-DQUOTED'] if self.has_quoted else flags
         os.mkdir(folder)
         source = self.program + '.c'
         with open(source, 'w') as f:
@@ -189,25 +212,29 @@ class Driver:
             f.write(b''.join(w.to_bytes(4, 'little') for w in words))
         return path
 
-    def times(self, name, words, room):
-        """Seconds of ours and of the baseline."""
-        same, result, place, ours, theirs = subprocess.run([self.program, self.keep(words), str(room), str(SECONDS)], check=True, stdout=subprocess.PIPE, text=True).stdout.split()
+    def run_both(self, name, words, room, seconds, more=()):
+        """Seconds of ours and of the baseline, whose answers are compared."""
+        same, result, place, ours, theirs = subprocess.run([self.program, self.keep(words), str(room), str(seconds), *more], check=True, stdout=subprocess.PIPE, text=True).stdout.split()
         if same != '1':
             sys.exit('%s: the answers differ' % name)
         if result != (name.split()[1] if name.startswith('refused') else '0'):
             sys.exit('%s: the result is %s %s' % (name, result, place))
         return float(ours), float(theirs)
 
-    def trace(self, which, words, room, more=()):
+    def times(self, name, words, room):
+        return self.run_both(name, words, room, SECONDS)
+
+    def trace(self, which, words, room, more=(), discount=None):
         """The path of callgrind's file for one call, and the instructions."""
         out = os.path.join(self.folder, 'callgrind.out')
-        name = {'ours': 'dovranis_draw', 'baseline': 'baseline_draw'}[which]
-        r = subprocess.run(['valgrind', '--tool=callgrind', '--toggle-collect=' + name, '--callgrind-out-file=' + out, *more, self.program, self.keep(words), str(room), which],
+        name = {'ours': 'dovranis_draw', 'baseline': 'baseline_draw'}[which] + ('' if discount is None else '_quoted')
+        asked = [self.program, self.keep(words), str(room), which] + ([] if discount is None else [str(discount)])
+        r = subprocess.run(['valgrind', '--tool=callgrind', '--toggle-collect=' + name, '--callgrind-out-file=' + out, *more, *asked],
                            check=True, stdout=subprocess.PIPE, stderr=subprocess.PIPE)
         return out, int(re.search(rb'Collected : (\d+)', r.stderr).group(1))
 
-    def instructions(self, which, words, room):
-        return self.trace(which, words, room)[1]
+    def instructions(self, which, words, room, discount=None):
+        return self.trace(which, words, room, discount=discount)[1]
 
 
 HEADS = ('list', 'words', 'instructions', 'baseline', 'ratio', 'µs', 'baseline', 'ratio')
@@ -243,15 +270,32 @@ def compare(driver, asked, markdown):
         print('- %s: %.1f to %.1f times the instructions, %.1f to %.1f times the time' % (name, i, j, a, b))
 
 
-# Where the instructions go. The archive has one function with all others inside, and no names. So each of its instructions is given to the first stage that
-# runs it, told by lists that are refused there, and below that to its loops, told by their backward jumps.
+def quoted(driver, asked):
+    """The calls with a discount are compared on each list too."""
+    if not driver.has_quoted:
+        sys.exit('the archive has no dovranis_draw_quoted')
+    print('| list | cables | without a discount | with one | more a cable | baseline, without | with one | more a cable |\n|---|' + '---:|' * 7)
+    for name, words, room in chosen(stations(), asked):
+        driver.run_both(name, words, room, 0, [str(DISCOUNT)])
+        m, row = len(words) - 2, []
+        for which in ('ours', 'baseline'):
+            plain, bill = (driver.instructions(which, words, room, d) for d in (None, DISCOUNT))
+            row += ['{:,}'.format(plain), '{:,}'.format(bill), '%.1f' % ((bill - plain) / m)]
+        print('| %s | %s |' % (name, ' | '.join(['{:,}'.format(m)] + row)), flush=True)
+    name, words, room = 'refused 12', next(refusals())[1], ROOM
+    driver.run_both(name, words, room, 0, ['10001'])
+    print('\n- refused 12: %d instructions, baseline %d' % tuple(driver.instructions(which, words, room, 10001) for which in ('ours', 'baseline')))
+
+
+# Where the instructions go. The archive has one large function with most others inside: the call, or one that it calls. So each of its instructions is given to
+# the first stage that runs it, told by lists that are refused there, and below that to its loops, told by their backward jumps.
 
 STAGES = (('checks 1 to 8', range(1, 9)), ('check 9', [9]), ('check 10', [10]), ('order, columns, courses', [11]))
 LAST = 'words, crossings'
 
 
 def costs(path):
-    """Instructions by function name, and by address in dovranis_draw."""
+    """Instructions by function name, and for each name by address."""
     by_name, by_address, names = {}, {}, {}
     inside, address, called = None, 0, False
     with open(path) as f:
@@ -272,17 +316,17 @@ def costs(path):
             address = int(at, 16) if at.startswith('0x') else address if at == '*' else address + int(at)
             if not called:
                 by_name[inside] = by_name.get(inside, 0) + int(m.group(2))
-                if inside == 'dovranis_draw':
-                    by_address[address] = by_address.get(address, 0) + int(m.group(2))
+                own = by_address.setdefault(inside, {})
+                own[address] = own.get(address, 0) + int(m.group(2))
             called = False
     return by_name, by_address
 
 
-def backward_jumps(program):
-    """(first, last) address of what each backward jump in dovranis_draw repeats; of those to one place the longest."""
-    text = subprocess.run(['objdump', '-d', '--no-show-raw-insn', '--disassemble=dovranis_draw', program], check=True, stdout=subprocess.PIPE, text=True).stdout
+def backward_jumps(program, large):
+    """(first, last) address of what each backward jump in the large function repeats; of those to one place the longest."""
+    text = subprocess.run(['objdump', '-d', '--no-show-raw-insn', '--disassemble=' + large, program], check=True, stdout=subprocess.PIPE, text=True).stdout
     spans = {}
-    for m in re.finditer(r'^ *([0-9a-f]+):\tj\w+ +([0-9a-f]+) <dovranis_draw', text, re.M):
+    for m in re.finditer(r'^ *([0-9a-f]+):\tj\w+ +([0-9a-f]+) <%s' % re.escape(large), text, re.M):
         at, to = int(m.group(1), 16), int(m.group(2), 16)
         if to <= at:
             spans[to] = max(at, spans.get(to, at))
@@ -330,16 +374,18 @@ def say_functions(by_name, total):
 
 def functions(driver, staged, asked):
     known, stage_of = {int(name.split()[1]): (words, room) for name, words, room in refusals()}, {}
+    drawn = costs(driver.trace('ours', *known[11], ['--dump-instr=yes'])[0])[1]
+    large = max(drawn, key=lambda function: len(drawn[function]))
     for stage, checks in STAGES:
         for check in checks:
             words, room = known[check]
-            for address in costs(driver.trace('ours', words, room, ['--dump-instr=yes'])[0])[1]:
+            for address in costs(driver.trace('ours', words, room, ['--dump-instr=yes'])[0])[1].get(large, ()):
                 stage_of.setdefault(address, stage)
-    spans = backward_jumps(driver.program)
+    spans = backward_jumps(driver.program, large)
     for name, words, room in chosen(stations((256,)), asked):
         n, m = reference.list_head(words[0])
         by_name, by_address = costs(driver.trace('ours', words, room, ['--dump-instr=yes'])[0])
-        total = sum(by_name.values())
+        by_address, total = by_address[large], sum(by_name.values())
         print('%s: %s instructions, n = %d, m = %d' % (name, '{:,}'.format(total), n, m))
         say_functions(by_name, total)
         for stage in [stage for stage, _ in STAGES] + [LAST]:
@@ -403,6 +449,8 @@ def main(args):
         driver = Driver(os.path.join(folder, 'plain'), archive)
         if '--functions' in args:
             return functions(driver, Driver(os.path.join(folder, 'stages'), archive, ['-DBASELINE_STAGES']), asked)
+        if '--quoted' in args:
+            return quoted(driver, asked)
         if '--passes' in args:
             return passes(driver, Driver(os.path.join(folder, 'passes'), archive, ['-DBASELINE_PASS_PER_RANK=1']), asked)
         return compare(driver, asked, '--markdown' in args)

@@ -1,19 +1,20 @@
-// Draws every list of a stored file, for the gate: standard input holds for each list the count of its words and the words, each most significant
-// byte first. Each list is drawn with room to spare, filled with a mark; a sheet also with the exact room and with one word less, a refused
-// list also with no room. Printed are the answers, the sheet's words, and whether what lies behind them is as it was.
+// Makes every call of a stored file, for the gate: standard input holds for each call the count of its list's words, whether a discount is given, the discount, and
+// the list's words, each most significant byte first. Each list is drawn with room to spare, filled with a mark; a sheet also with the exact room and with one
+// word less, a refused list also with no room. Printed are the answers, the sheet's words, and whether what lies behind them is as it was.
 use hookup::Answer;
+use hookup::Options;
 use libc::STDIN_FILENO;
 use libc::STDOUT_FILENO;
 use text::bytes::read_words;
 use text::lines::put_hex_lines;
 use text::lines::put_number;
 use text::lines::put_refused;
-use words::limits::MOST_WORDS;
+use words::limits::MOST_QUOTED_WORDS;
 
 const MARK: u32 = 0xa5a5_a5a5;
 
 // Room to spare for every sheet.
-const ROW: usize = 2 * MOST_WORDS;
+const ROW: usize = 2 * MOST_QUOTED_WORDS;
 
 fn say(text: &[u8]) {
     io::write_all(STDOUT_FILENO, text);
@@ -101,72 +102,84 @@ fn say_same(a: &[u32], b: &[u32]) {
 }
 
 // The answer for a list with room for so many words of a row.
-fn draw_in(list: &[u32], row: &mut [u32], room: usize) {
+fn draw_in(list: &[u32], row: &mut [u32], room: usize, options: Options) {
     if room <= row.len() {
-        say_answer(hookup::draw(list, &mut row[..room]));
+        say_answer(hookup::draw(list, &mut row[..room], options));
     }
 }
 
 // A sheet of k words once more, with the exact room.
-fn draw_exact(list: &[u32], first: &[u32], k: usize) {
+fn draw_exact(list: &[u32], first: &[u32], k: usize, options: Options) {
     let mut row = [MARK; ROW];
-    draw_in(list, &mut row, k);
+    draw_in(list, &mut row, k, options);
     say_same(first, &row);
 }
 
 // A list with room for so many words, which are too few.
-fn draw_short(list: &[u32], room: usize) {
+fn draw_short(list: &[u32], room: usize, options: Options) {
     let mut row = [MARK; ROW];
-    draw_in(list, &mut row, room);
+    draw_in(list, &mut row, room, options);
     say_kept(&row);
 }
 
-fn draw_sheet(list: &[u32], row: &[u32], k: usize) {
+fn draw_sheet(list: &[u32], row: &[u32], k: usize, options: Options) {
     if k <= row.len() {
         say_words(&row[..k]);
         say_kept(&row[k..]);
-        draw_exact(list, row, k);
+        draw_exact(list, row, k, options);
         if 0 < k {
-            draw_short(list, k - 1);
+            draw_short(list, k - 1, options);
         }
     }
 }
 
-fn draw_list(list: &[u32]) {
+fn draw_list(list: &[u32], options: Options) {
     let mut row = [MARK; ROW];
-    let answer = hookup::draw(list, &mut row);
+    let answer = hookup::draw(list, &mut row, options);
     say_answer(answer);
     match answer {
         Answer::Sheet {
             words,
             crossings: _,
-        } => draw_sheet(list, &row, words),
+        } => draw_sheet(list, &row, words, options),
         Answer::Refused { check: _, place: _ } => {
             say_kept(&row);
-            draw_short(list, 0);
+            draw_short(list, 0, options);
         }
     }
 }
 
-// The lists of a file, one behind the other, each behind its count of words.
+// No discount, or this one.
+fn options_of(given: u32, discount: u32) -> Options {
+    if given == 0 {
+        return Options::plain();
+    }
+    Options::quoted(discount)
+}
+
+// The calls of a file, one behind the other, each list behind its count of words and what is given.
 fn draw_all(words: &[u32]) {
     let mut at = 0;
     while at < words.len() {
+        if words.len() - at < 3 {
+            return;
+        }
         let k = words[at] as usize;
-        let start = at + 1;
+        let options = options_of(words[at + 1], words[at + 2]);
+        let start = at + 3;
         if words.len() - start < k {
             return;
         }
         let end = start + k;
-        draw_list(&words[start..end]);
+        draw_list(&words[start..end], options);
         at = end;
     }
 }
 
 fn main() {
-    let mut bytes = [0u8; 65536];
+    let mut bytes = [0u8; 131072];
     let n = io::read_full(STDIN_FILENO, &mut bytes);
-    let mut words = [0u32; 16384];
+    let mut words = [0u32; 32768];
     let count = read_words(&bytes[..n], &mut words);
     draw_all(&words[..count]);
 }

@@ -4,10 +4,10 @@ use Rattle.drawing.specs.Lines.{point}
 use Rattle.drawing.specs.Crossing.{between, meetingSpot, runsCross, crossesOver, linesCross}
 use Rattle.drawing.specs.Drawing.{spotOf, routePoints, routeAt, pointsAt, crossPair, crossingsOf, crossings, renumbered}
 use Rattle.drawing.specs.Lengths.{steps, lineLength, cableLengths}
-use Rattle.drawing.specs.Sheet.{partSpotWord, cornerSpotWord, routeWords, routesWords, lengthWords, headSection, partsSection, cablesSection, lengthsSection, sheetWords}
-use Rattle.drawing.specs.Reading.{wordSpot, routesIn, drawingIn, behindCables, lengthsIn}
-use Rattle.lists.proofs.Computing.{lists-computing}
+use Rattle.drawing.specs.Sheet.{partSpotWord, cornerSpotWord, routeWords, routesWords, lengthWords, headSection, partsSection, cablesSection, lengthsSection, quoteSection, sheetWords, quotedWords}
+use Rattle.drawing.specs.Reading.{wordSpot, routesIn, drawingIn, behindCables, behindDrawing, lengthsIn, quoteIn}
+use Rattle.prices.proofs.Computing.{prices-computing}
 
 unfoldable pub drawing-computing : Unit {0}
-unfolding lists-computing sameSpot point between meetingSpot runsCross crossesOver linesCross spotOf routePoints routeAt pointsAt crossPair crossingsOf crossings renumbered steps lineLength cableLengths partSpotWord cornerSpotWord routeWords routesWords lengthWords headSection partsSection cablesSection lengthsSection sheetWords wordSpot routesIn drawingIn behindCables lengthsIn
+unfolding prices-computing sameSpot point between meetingSpot runsCross crossesOver linesCross spotOf routePoints routeAt pointsAt crossPair crossingsOf crossings renumbered steps lineLength cableLengths partSpotWord cornerSpotWord routeWords routesWords lengthWords headSection partsSection cablesSection lengthsSection quoteSection sheetWords quotedWords wordSpot routesIn drawingIn behindCables behindDrawing lengthsIn quoteIn
 drawing-computing = tt

@@ -13,7 +13,7 @@ use Rattle.lists.proofs.Maps.{map-tabulate}
 use Rattle.lists.proofs.Agree.{tabulate-same}
 use Rattle.lists.proofs.Fill.{tabulate-of}
 use Rattle.words.specs.Words.{kindOf, secondOf, lineOf, totalOf, cableLength, cableLengthWord, totalLength, totalLengthWord}
-use Rattle.words.proofs.Words.{LineFields, lineFields-apart, totalLength-apart}
+use Rattle.words.proofs.Words.{LineFields, lineFields-apart, wideField-apart}
 use Rattle.drawing.specs.Sheet.{lengthWords}
 
 pub record LengthsFit (lengths : List ℕ) : Type 0 where
@@ -55,7 +55,7 @@ module _ (lengths : List ℕ) where
             let t = mem-place records 0 k in
             let h : t .0 < length lengths = omega (arith, records-count, t .1) in
             omega (arith, t .2, getD-tabulate (length lengths) (λ i. cableLengthWord i (getD lengths i 0)) (t .0) 0 h, record-fields (t .0) h .fits)
-        go (inr k) = omega (arith, List·Memᴰ·eq-of-singleton k, totalLength-apart (sum lengths) (F .total) .fits)
+        go (inr k) = omega (arith, List·Memᴰ·eq-of-singleton k, wideField-apart totalLength (sum lengths) (omega arith) (F .total) .fits)
 
     -- What is read off them
 
@@ -78,7 +78,7 @@ module _ (lengths : List ℕ) where
         ∙ sym (tabulate-of (length lengths) (λ i. getD lengths i 0) 0 lengths refl (λ i h. refl))
 
     pub total-kind : kindOf (getD (lengthWords lengths) (length lengths) 0) ≡ totalLength
-    total-kind = ap kindOf total-at ∙ totalLength-apart (sum lengths) (F .total) .kind-is
+    total-kind = ap kindOf total-at ∙ wideField-apart totalLength (sum lengths) (omega arith) (F .total) .kind-is
 
     pub total-read : totalOf (getD (lengthWords lengths) (length lengths) 0) ≡ sum lengths
-    total-read = ap totalOf total-at ∙ totalLength-apart (sum lengths) (F .total) .steps-is
+    total-read = ap totalOf total-at ∙ wideField-apart totalLength (sum lengths) (omega arith) (F .total) .wide-is

@@ -1,5 +1,5 @@
 -- Laws of drawings: spots and their test (Spots), the test that lines cross (Crossing), an arc for each pair that does (Arcs), the lengths of lines (Lengths)
--- and their words (LengthWords), all words read back (ReadBack, Measured) and counted (WordCounts), other numbers of the parts (Renaming, Renumbered, Sized), and small examples (Worked). Assumes nothing.
+-- and their words (LengthWords), all words read back (ReadBack, Measured) and counted (WordCounts), other numbers of the parts (Renaming, Renumbered, Sized), what the cables cost behind them (Quoted), and small examples (Worked). Assumes nothing.
 pub mod Spots
 pub mod Crossing
 pub mod Arcs
@@ -11,5 +11,6 @@ pub mod WordCounts
 pub mod Renaming
 pub mod Renumbered
 pub mod Sized
+pub mod Quoted
 pub mod Computing
 pub mod Worked

@@ -2,7 +2,7 @@
 use Prim.Native.Nat.{ℕ, _<_, _≤_}
 use native.Mathlib.Omega.{arith}
 use mathlib.Core.Path.{sym, ap, subst, _∙_}
-use mathlib.Core.List.{List}
+use mathlib.Core.List.{List, _++_}
 use lib.ListN.{length}
 use Rattle.lists.specs.Select.{sum}
 use Rattle.drawing.specs.Drawing.{Drawing, pointsAt}
@@ -30,8 +30,8 @@ module _ (n : ℕ) (ends : List Ends) (d : Drawing) (F : DrawingFits n ends d) (
     most = λ i h. short i (omega (arith, lengths-count d));
   }
 
-  pub measured : Measured n (length (d .routes)) d (lengthsIn n (length (d .routes)) (sheetWords d))
+  pub measured : (rest : List ℕ) → Measured n (length (d .routes)) d (lengthsIn n (length (d .routes)) (sheetWords d ++ rest))
   unfolding lengthsSection
-  measured =
-      subst (λ (words : List ℕ). Measured n (length (d .routes)) d words) (sym (lengths-back n ends d F))
+  measured rest =
+      subst (λ (words : List ℕ). Measured n (length (d .routes)) d words) (sym (lengths-back n ends d F rest))
       (subst (λ (m : ℕ). Measured n m d (lengthWords (cableLengths d))) (lengths-count d) by-lengths)

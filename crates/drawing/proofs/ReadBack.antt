@@ -4,7 +4,7 @@ use native.Mathlib.Omega.{arith}
 use native.Mathlib.Numerals.{add-one}
 use mathlib.Core.Path.{_≡_, refl, sym, ap, ap₂, _∙_}
 use mathlib.Core.Logic.{_⊎_, inl, inr, ⊎-elim}
-use mathlib.Core.List.{List, [], _∷_, _++_, map, append-nil, append-assoc}
+use mathlib.Core.List.{List, [], _∷_, _++_, map, append-assoc}
 use mathlib.Core.List.{List·Memᴰ, List·Memᴰ·cases-cons, List·Memᴰ·not-nil, List·Memᴰ·append-cases}
 use lib.ListN.{length, getD, take, drop, length-map}
 use lib.Seq.{take-at, drop-at}
@@ -14,10 +14,10 @@ use Rattle.drawing.specs.Spots.{Spot, origin}
 use Rattle.drawing.specs.Drawing.{Route, noRoute, Drawing}
 use Rattle.drawing.specs.Sheet.{partSpotWord, cornerSpotWord, routeWords, routesWords, lengthWords, headSection, partsSection, cablesSection, lengthsSection, sheetWords}
 use Rattle.drawing.specs.Lengths.{cableLengths}
-use Rattle.drawing.specs.Reading.{Ends, noEnds, wordSpot, routesIn, drawingIn, behindCables, lengthsIn}
+use Rattle.drawing.specs.Reading.{Ends, noEnds, wordSpot, routesIn, drawingIn, behindCables, behindDrawing, lengthsIn, quoteIn}
 use Rattle.drawing.proofs.Spots.{spot-path}
 use Rattle.drawing.proofs.Lengths.{lengths-count}
-use Rattle.drawing.proofs.LengthWords.{LengthsFit, lengthWords-fit}
+use Rattle.drawing.proofs.LengthWords.{LengthsFit, lengthWords-length, lengthWords-fit}
 
 -- Numbers that fit their fields
 
@@ -138,10 +138,10 @@ parts-dropped : (l : List Spot) (w : ℕ) (rest : List ℕ) (n : ℕ) → length
 parts-dropped l w rest n e = let q : 1 + n ≡ suc n = omega arith in rw q (drop-at (map partSpotWord l) rest n (length-map l partSpotWord ∙ e))
 
 module _ (n : ℕ) (ends : List Ends) (d : Drawing) (F : DrawingFits n ends d) where
-  -- a sheet is read the same with other words behind it
-  pub read-back-front : (rest : List ℕ) → drawingIn n ends (sheetWords d ++ rest) ≡ d
+  -- a sheet is read the same whatever lies behind its lengths
+  pub read-back : (rest : List ℕ) → drawingIn n ends (sheetWords d ++ rest) ≡ d
   unfolding drawingIn
-  read-back-front rest =
+  read-back rest =
       let a = fields-apart sheetHead (d .width) (d .height) (omega arith) (F .width-fits) (F .height-fits) in
       let behind : List ℕ = routesWords 0 (d .routes) ++ (lengthsSection d ++ rest) in
       ap (drawingIn n ends) (sheet-front d rest)
@@ -150,21 +150,26 @@ module _ (n : ℕ) (ends : List Ends) (d : Drawing) (F : DrawingFits n ends d) w
       (ap (routesIn ends) (parts-dropped (d .parts) (sheetHeadWord (d .width) (d .height)) behind n (F .parts-count))
       ∙ routes-back ends (d .routes) 0 (lengthsSection d ++ rest) (F .routes-count) (F .routes-fit))
 
-  pub read-back : drawingIn n ends (sheetWords d) ≡ d
-  read-back = ap (drawingIn n ends) (sym (append-nil (sheetWords d))) ∙ read-back-front []
-
-  -- and so are the lengths
-  pub lengths-back-front : (rest : List ℕ) → lengthsIn n (length (d .routes)) (sheetWords d ++ rest) ≡ lengthsSection d ++ rest
-  unfolding lengthsIn
-  lengths-back-front rest =
-      ap (lengthsIn n (length (d .routes))) (sheet-front d rest)
+  behind-back : (rest : List ℕ) → behindDrawing n (length (d .routes)) (sheetWords d ++ rest) ≡ lengthsSection d ++ rest
+  unfolding behindDrawing
+  behind-back rest =
+      ap (behindDrawing n (length (d .routes))) (sheet-front d rest)
       ∙ ap (behindCables (length (d .routes)))
       (parts-dropped (d .parts) (sheetHeadWord (d .width) (d .height)) (routesWords 0 (d .routes) ++ (lengthsSection d ++ rest)) n (F .parts-count))
       ∙ routes-behind ends (d .routes) 0 (lengthsSection d ++ rest) (F .routes-count) (F .routes-fit)
 
-  pub lengths-back : lengthsIn n (length (d .routes)) (sheetWords d) ≡ lengthsSection d
-  lengths-back =
-      ap (lengthsIn n (length (d .routes))) (sym (append-nil (sheetWords d))) ∙ lengths-back-front [] ∙ append-nil (lengthsSection d)
+  count-lengths : length (lengthsSection d) ≡ length (d .routes) + 1
+  unfolding lengthsSection
+  count-lengths = omega (arith, lengthWords-length (cableLengths d), lengths-count d)
+
+  -- and so are the lengths, and what lies behind them
+  pub lengths-back : (rest : List ℕ) → lengthsIn n (length (d .routes)) (sheetWords d ++ rest) ≡ lengthsSection d
+  unfolding lengthsIn
+  lengths-back rest = ap (take (length (d .routes) + 1)) (behind-back rest) ∙ take-at (lengthsSection d) rest (length (d .routes) + 1) count-lengths
+
+  pub quote-back : (rest : List ℕ) → quoteIn n (length (d .routes)) (sheetWords d ++ rest) ≡ rest
+  unfolding quoteIn
+  quote-back rest = ap (drop (length (d .routes) + 1)) (behind-back rest) ∙ drop-at (lengthsSection d) rest (length (d .routes) + 1) count-lengths
 
 -- 'List and sheet are rows of 32-bit words.'
 

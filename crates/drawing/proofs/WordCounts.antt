@@ -10,7 +10,7 @@ use Rattle.lists.specs.Select.{count, oneIf, sum}
 use Rattle.lists.proofs.Maps.{count-tabulate}
 use Rattle.lists.proofs.Sums.{count-append, count-none as count-range-none}
 use Rattle.words.specs.Words.{kindOf, sheetHead, sheetHeadWord, part, sheetCable, sheetCableWord, corner, cableLength, cableLengthWord, totalLength, totalLengthWord}
-use Rattle.words.proofs.Words.{fields-apart, lineFields-apart, totalLength-apart}
+use Rattle.words.proofs.Words.{fields-apart, lineFields-apart, wideField-apart}
 use Rattle.drawing.specs.Spots.{Spot}
 use Rattle.drawing.specs.Drawing.{Route, noRoute, Drawing}
 use Rattle.drawing.specs.Sheet.{partSpotWord, cornerSpotWord, routeWords, routesWords, lengthWords, headSection, partsSection, cablesSection, lengthsSection, sheetWords}
@@ -131,7 +131,7 @@ lengthWords-corners lengths F few =
       count-tabulate isCorner (length lengths) (λ i. cableLengthWord i (getD lengths i 0)),
       count-range-none (λ i. isCorner (cableLengthWord i (getD lengths i 0))) (length lengths)
           (λ i h. no-corner cableLength _ (record-fields lengths F few i h .kind-is) (λ e. omega arith)),
-      ap oneIf (no-corner totalLength _ (totalLength-apart (sum lengths) (F .total) .kind-is) (λ e. omega arith)),
+      ap oneIf (no-corner totalLength _ (wideField-apart totalLength (sum lengths) (omega arith) (F .total) .kind-is) (λ e. omega arith)),
     )
 
 module _ (n : ℕ) (ends : List Ends) (d : Drawing) (F : DrawingFits n ends d) where

@@ -1,11 +1,12 @@
--- Small drawings: document 01's triangle as words (2026-01) and read back, and lines that cross. Assumes nothing.
+-- Small drawings: document 01's triangle as words (2026-01, and with a quote 2026-05) and read back, and lines that cross. Assumes nothing.
 use Prim.Native.Nat.{ℕ}
 use mathlib.Core.Path.{_≡_, refl}
-use mathlib.Core.List.{List, [], _∷_}
+use mathlib.Core.List.{List, [], _∷_, _++_}
 use Rattle.drawing.specs.Spots.{Spot, spotAt}
 use Rattle.drawing.specs.Drawing.{Route, Drawing, crossings}
-use Rattle.drawing.specs.Sheet.{sheetWords}
-use Rattle.drawing.specs.Reading.{Ends, drawingIn, lengthsIn}
+use Rattle.prices.specs.declared.Discount.the-variants.{NotGiven, Given}
+use Rattle.drawing.specs.Sheet.{sheetWords, quotedWords}
+use Rattle.drawing.specs.Reading.{Ends, drawingIn, lengthsIn, quoteIn}
 use Rattle.drawing.proofs.Computing.{drawing-computing}
 
 abbrev route : ℕ → ℕ → List Spot → Route
@@ -48,6 +49,10 @@ record Worked : Type 0 where
   triangle-words : sheetWords triangle ≡ thirteen
   triangle-read : drawingIn 3 (ends 0 1 ∷ ends 1 2 ∷ ends 0 2 ∷ []) thirteen ≡ triangle
   triangle-lengths : lengthsIn 3 3 thirteen ≡ 0x80000001 ∷ 0x80001001 ∷ 0x80002004 ∷ 0xa0000006 ∷ []
+  -- 2026-05: 'after the run lengths', with a discount of 5 in 10,000
+  triangle-quoted : quotedWords (Given 5) triangle ≡ thirteen ++ 970 ∷ 970 ∷ 1039 ∷ 2979 ∷ []
+  triangle-plain : quotedWords NotGiven triangle ≡ thirteen
+  quote-read : quoteIn 3 3 (quotedWords (Given 5) triangle) ≡ 970 ∷ 970 ∷ 1039 ∷ 2979 ∷ []
   -- 2026-02: 'all pairs of cables whose lines cross, those that share a part too'
   crossed : crossings (over (route 2 3 [])) ≡ 1
   -- this one ends at part 0, from above
@@ -57,4 +62,14 @@ record Worked : Type 0 where
 
 worked : Worked
 unfolding drawing-computing
-worked = record { triangle-words = refl; triangle-read = refl; triangle-lengths = refl; crossed = refl; joined = refl; meeting = refl }
+worked = record {
+  triangle-words = refl;
+  triangle-read = refl;
+  triangle-lengths = refl;
+  triangle-quoted = refl;
+  triangle-plain = refl;
+  quote-read = refl;
+  crossed = refl;
+  joined = refl;
+  meeting = refl;
+}

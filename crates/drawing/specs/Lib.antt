@@ -1,4 +1,4 @@
--- Document 01 and requests 2026-01 and 2026-02: what a sheet is. Spots, runs and lines, how they meet; a drawing, the lengths of its lines, its words, and the
+-- Document 01 and requests 2026-01, 2026-02 and 2026-05: what a sheet is. Spots, runs and lines, how they meet; a drawing, the lengths of its lines, its words, and the
 -- drawing that words show. Assumes nothing.
 pub mod Spots
 pub mod Lines

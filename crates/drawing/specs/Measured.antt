@@ -10,7 +10,7 @@ use Rattle.drawing.specs.Drawing.{Drawing, pointsAt}
 use Rattle.drawing.specs.Lengths.{lineLength, mostLength}
 
 pub record Measured (n m : ℕ) (d : Drawing) (words : List ℕ) : Type 0 where
-  -- 'm words of kind 8 .. then one of kind 10', and no word more
+  -- 'm words of kind 8 .. then one of kind 10'
   pub count : length words ≡ m + 1
   pub kinds : (i : ℕ) → i < m → kindOf (getD words i 0) ≡ cableLength
   pub total-kind : kindOf (getD words m 0) ≡ totalLength

@@ -45,6 +45,14 @@ unfoldable pub behindCables : ℕ → List ℕ → List ℕ
 behindCables zero words = words
 behindCables (suc m) words = behindCables m (drop (secondOf (getD words 0 0) + 1) words)
 
--- 2026-01: the words of a sheet of n parts and m cables that come 'after the last cable's corners'
+-- the words of a sheet of n parts and m cables that come 'after the last cable's corners'
+unfoldable pub behindDrawing : ℕ → ℕ → List ℕ → List ℕ
+behindDrawing n m sheet = behindCables m (drop (1 + n) sheet)
+
+-- 2026-01: of these 'm words .. then one'
 unfoldable pub lengthsIn : ℕ → ℕ → List ℕ → List ℕ
-lengthsIn n m sheet = behindCables m (drop (1 + n) sheet)
+lengthsIn n m sheet = take (m + 1) (behindDrawing n m sheet)
+
+-- 2026-05: those that come 'after the run lengths'
+unfoldable pub quoteIn : ℕ → ℕ → List ℕ → List ℕ
+quoteIn n m sheet = drop (m + 1) (behindDrawing n m sheet)

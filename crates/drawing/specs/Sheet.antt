@@ -1,10 +1,13 @@
 -- Document 01: 'A sheet is its head, the parts by number, then the cables by line, each followed by its corners from the lower-ranked end upward.'
--- Request 2026-01: behind them the lengths of the cables. The words of a drawing, section by section. Assumes nothing.
+-- Request 2026-01: behind them the lengths of the cables; 2026-05: and behind those what the cables cost. The words of a drawing, section by section. Assumes nothing.
 use Prim.Native.Nat.{ℕ, _+_}
 use mathlib.Core.List.{List, [], _∷_, _++_, map}
 use lib.ListN.{length, getD}
 use Rattle.lists.specs.Select.{tabulate, sum}
 use Rattle.words.specs.Words.{sheetHeadWord, partWord, sheetCableWord, cornerWord, cableLengthWord, totalLengthWord}
+use Rattle.prices.specs.declared.Discount.{Discount}
+use Rattle.prices.specs.declared.Discount.the-variants.{NotGiven, Given}
+use Rattle.prices.specs.Quote.{quoteWords}
 use Rattle.drawing.specs.Spots.{Spot}
 use Rattle.drawing.specs.Drawing.{Route, Drawing}
 use Rattle.drawing.specs.Lengths.{cableLengths}
@@ -42,6 +45,15 @@ cablesSection d = routesWords 0 (d .routes)
 unfoldable pub lengthsSection : Drawing → List ℕ
 lengthsSection d = lengthWords (cableLengths d)
 
--- the sections of a sheet, in their sequence
+-- 2026-05: 'A call given a discount ends the sheet with' the bill
+unfoldable pub quoteSection : Discount → Drawing → List ℕ
+quoteSection NotGiven d = []
+quoteSection (Given discount) d = quoteWords discount (cableLengths d)
+
+-- the sections of a sheet, in their sequence, up to the lengths: all that a drawing alone says
 unfoldable pub sheetWords : Drawing → List ℕ
 sheetWords d = headSection d ++ (partsSection d ++ (cablesSection d ++ lengthsSection d))
+
+-- 2026-05: and the bill, 'after the run lengths'
+unfoldable pub quotedWords : Discount → Drawing → List ℕ
+quotedWords discount d = sheetWords d ++ quoteSection discount d

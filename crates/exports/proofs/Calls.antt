@@ -1,15 +1,21 @@
 -- A call by its answer, and what a call tells its caller. Assumes nothing.
 use Prim.Native.Nat.{ℕ, zero, suc, _≤_}
-use mathlib.Core.Path.{_≡_, refl, sym, _∙_, ap, ap₂, subst}
+use mathlib.Core.Path.{_≡_, refl, sym, _∙_, ap, ap₂, subst, subst₂}
 use mathlib.Core.List.{List}
 use native.Mathlib.Omega.{arith}
 use lib.ListN.{length}
+use Rattle.lists.specs.declared.Found.the-variants.{At}
+use Rattle.prices.specs.Discounts.{mostDiscount, check12}
+use Rattle.prices.proofs.Discounts.{within, not-given}
+use Rattle.hookup.specs.declared.Options.{Options}
 use Rattle.hookup.specs.declared.Answer.{Answer}
 use Rattle.hookup.specs.declared.Answer.the-variants.{Sheet, Refused}
+use Rattle.hookup.specs.Options.{plain, quoted}
 use Rattle.hookup.specs.Outcome.{Outcome, drawn, sentBack, outcome}
+use Rattle.hookup.proofs.Drawn.{mostWordsFor}
 use Rattle.hookup.specs.Answer.{counts, refusal, replyOf, reply, Drew}
-use Rattle.exports.specs.Call.{mostWords, Lent, lent, answerOf, Kept, Called}
-use Rattle.exports.proofs.Bounds.{refusal-number, sheet-words, never-short}
+use Rattle.exports.specs.Call.{mostWords, mostQuotedWords, Lent, lent, answerOf, Numbered, Kept, Told, Called}
+use Rattle.exports.proofs.Bounds.{Refusal, refusal-bounded, sheet-words}
 
 -- Outcomes by their replies
 
@@ -20,51 +26,87 @@ sent-back (sentBack check place) {c} {p} e =
     let h : place ≡ p = cc in
     cc
 
-drawn-words : (list : List ℕ) (room : ℕ) (o : Outcome) {w k : ℕ} → outcome list room ≡ o → counts w k ≡ reply o → (w ≤ room) × (w ≤ mostWords)
-drawn-words list room (drawn words x) {w} {k} f e =
+drawn-words :
+    (options : Options) (list : List ℕ) (room : ℕ) (o : Outcome) {w k : ℕ} → outcome options list room ≡ o → counts w k ≡ reply o
+    → (w ≤ room) × (w ≤ mostWordsFor (options .discount))
+drawn-words options list room (drawn words x) {w} {k} f e =
     let h : w ≡ length words = cc in
-    let s = sheet-words list room f in
+    let s = sheet-words options list room f in
     (omega (arith, s .0), omega (arith, s .1))
-drawn-words list room (sentBack check place) f e = let z : _≡_ {A = ℕ} 0 1 = cc in absurd (omega arith)
+drawn-words options list room (sentBack check place) f e = let z : _≡_ {A = ℕ} 0 1 = cc in absurd (omega arith)
 
-module _ {list before after : List ℕ} where
-  refused-outcome : {c p : ℕ} → Drew list before after (Refused c p) → outcome list (length before) ≡ sentBack c p
-  refused-outcome D = sent-back (outcome list (length before)) (D .replies)
+module _ {options : Options} {list before after : List ℕ} where
+  refused : {c p : ℕ} → Drew options list before after (Refused c p) → Refusal options (length before) c p
+  refused D = refusal-bounded options list (length before) (sent-back (outcome options list (length before)) (D .replies))
 
   -- Calls by their answers
 
-  pub called-sheet : {answer : Answer} {w k a b q : ℕ} → Drew list before after answer → answer ≡ Sheet w k → Called list before after (lent a b q) (lent w k q) 0
-  called-sheet D e = record { drew = subst (λ (x : Answer). Drew list before after x) e D; kept = refl }
-
   -- no refusal has the number 0
-  pub called-refused : {answer : Answer} (c : ℕ) {p a b q : ℕ} → Drew list before after answer → answer ≡ Refused c p → Called list before after (lent a b q) (lent a b p) c
-  called-refused {answer} zero {p} D e =
-      let R : Drew list before after (Refused 0 p) = subst (λ (x : Answer). Drew list before after x) e D in
-      absurd (omega (arith, refusal-number list (length before) (refused-outcome R) .0))
-  called-refused (suc c) D e = record { drew = subst (λ (x : Answer). Drew list before after x) e D; kept = (refl, refl) }
+  pub drew-numbered : (answer : Answer) → Drew options list before after answer → Numbered answer
+  drew-numbered (Sheet words crossings) D = tt
+  drew-numbered (Refused check place) D = refused D .least
+
+  pub called : {given : Options} {answer : Answer} {numbers left : Lent} {result : ℕ} → given ≡ options → Drew given list before after answer
+      → Told answer numbers left result → Called options list before after numbers left result
+  called e D T = record { drew = subst₂ (λ (o : Options) (a : Answer). Drew o list before after a) e (sym (T .answers)) D; kept = T .kept }
 
   -- What a call tells
 
-  -- the result is 0 to 11
-  pub result-most : {numbers left : Lent} (result : ℕ) → Called list before after numbers left result → result ≤ 11
+  pub result-most : {numbers left : Lent} (result : ℕ) → Called options list before after numbers left result → result ≤ 12
   result-most zero C = omega arith
-  result-most (suc c) C = refusal-number list (length before) (refused-outcome (C .drew)) .1
+  result-most (suc c) C = refused (C .drew) .most
 
-  -- and never 11 where the output has `mostWords` words or more
-  pub never-11 : {numbers left : Lent} (result : ℕ) → mostWords ≤ length before → Called list before after numbers left result → result ≤ 10
-  never-11 zero h C = omega arith
-  never-11 (suc c) h C = never-short list (length before) h (refused-outcome (C .drew))
+  never-11 :
+      {numbers left : Lent} (result : ℕ) → mostWordsFor (options .discount) ≤ length before → Called options list before after numbers left result → result ≡ 11 → ⊥
+  never-11 zero h C e = absurd (omega arith)
+  never-11 (suc c) h C e = absurd (omega (arith, refused (C .drew) .eleven e))
 
-  pub words-within : {numbers left : Lent} → Called list before after numbers left 0 → (left .words ≤ length before) × (left .words ≤ mostWords)
-  words-within C = drawn-words list (length before) (outcome list (length before)) refl (C .drew .replies)
+  words-within : {numbers left : Lent} → Called options list before after numbers left 0 → (left .words ≤ length before) × (left .words ≤ mostWordsFor (options .discount))
+  words-within C = drawn-words options list (length before) (outcome options list (length before)) refl (C .drew .replies)
+
+  -- 12 tells that the discount's own check applies
+  result-12 : {numbers left : Lent} (result : ℕ) → Called options list before after numbers left result → result ≡ 12 → check12 (options .discount) ≡ At (left .place)
+  result-12 zero C e = absurd (omega arith)
+  result-12 (suc c) C e = refused (C .drew) .twelve e
+
+-- so that it never comes where none is given, or one of 10,000 at most; and 11 never comes where the output has the words that suffice
+module _ {list before after : List ℕ} {numbers left : Lent} where
+  pub plain-never-11 : (result : ℕ) → mostWords ≤ length before → Called plain list before after numbers left result → result ≡ 11 → ⊥
+  plain-never-11 result h C = never-11 result h C
+
+  pub plain-never-12 : (result : ℕ) → Called plain list before after numbers left result → result ≡ 12 → ⊥
+  plain-never-12 result C e = let g = sym not-given ∙ result-12 result C e in let z : _≡_ {A = ℕ} 0 1 = cc in absurd (omega arith)
+
+  pub plain-words : Called plain list before after numbers left 0 → (left .words ≤ length before) × (left .words ≤ mostWords)
+  plain-words C = words-within C
+
+  module _ (discount : ℕ) where
+    pub quoted-never-11 : (result : ℕ) → mostQuotedWords ≤ length before → Called (quoted discount) list before after numbers left result → result ≡ 11 → ⊥
+    quoted-never-11 result h C = never-11 result h C
+
+    pub quoted-never-12 : (result : ℕ) → discount ≤ mostDiscount → Called (quoted discount) list before after numbers left result → result ≡ 12 → ⊥
+    quoted-never-12 result h C e = let g = sym (within discount h) ∙ result-12 result C e in let z : _≡_ {A = ℕ} 0 1 = cc in absurd (omega arith)
+
+    pub quoted-words : Called (quoted discount) list before after numbers left 0 → (left .words ≤ length before) × (left .words ≤ mostQuotedWords)
+    quoted-words C = words-within C
+
+-- An answer told
+
+pub told-sheet : {answer : Answer} {w k a b q : ℕ} → answer ≡ Sheet w k → Told answer (lent a b q) (lent w k q) 0
+told-sheet e = record { answers = sym e; kept = refl }
+
+pub told-refused : {answer : Answer} (c : ℕ) {p a b q : ℕ} → Numbered answer → answer ≡ Refused c p → Told answer (lent a b q) (lent a b p) c
+told-refused zero {p} n e = let g : Numbered (Refused 0 p) = subst Numbered e n in absurd (omega arith)
+told-refused (suc c) n e = record { answers = sym e; kept = (refl, refl) }
 
 lent-same : (m n : Lent) → m .words ≡ n .words → m .crossings ≡ n .crossings → m .place ≡ n .place → m ≡ n
 lent-same m n e f g = ap₂ (λ (w k : ℕ). lent w k (m .place)) e f ∙ ap (lent (n .words) (n .crossings)) g
 
 -- What a call is given determines its result, the output and the numbers.
-pub determined : {list before after last : List ℕ} {numbers m n : Lent} (r s : ℕ) → Called list before after numbers m r → Called list before last numbers n s
-    → (r ≡ s) × (after ≡ last) × (m ≡ n)
-determined {list} {before} {after} {last} {numbers} {m} {n} r s C D = go r s (C .kept) (D .kept) (C .drew .replies ∙ sym (D .drew .replies))
+pub determined :
+    {options : Options} {list before after last : List ℕ} {numbers m n : Lent} (r s : ℕ) → Called options list before after numbers m r
+    → Called options list before last numbers n s → (r ≡ s) × (after ≡ last) × (m ≡ n)
+determined {options} {list} {before} {after} {last} {numbers} {m} {n} r s C D = go r s (C .kept) (D .kept) (C .drew .replies ∙ sym (D .drew .replies))
   where
     output : after ≡ last
     output = C .drew .output ∙ sym (D .drew .output)

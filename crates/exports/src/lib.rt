@@ -1,14 +1,18 @@
 // The calls for programs that are not written in Rattle. include/dovranis.h says in words what the contracts here say.
 use hookup::Answer;
+use hookup::Options;
 use hookup::draw;
 use words::limits;
 ghost use mathlib.Core.Path.{_≡_};
-ghost use Rattle.exports.specs.Call.{mostWords, lent, Called};
+ghost use Rattle.hookup.specs.Options.{plain, quoted};
+ghost use Rattle.exports.specs.Call.{mostWords, mostQuotedWords, lent, Numbered, Told, Called};
 
-// An output of so many words is long enough for every sheet.
+// An output of so many words is long enough for every sheet, and with a discount one of so many more.
 pub const MOST_WORDS: usize = limits::MOST_WORDS;
 
-// The constant, for programs that do not read the header.
+pub const MOST_QUOTED_WORDS: usize = limits::MOST_QUOTED_WORDS;
+
+// The constants, for programs that do not read the header.
 #[no_mangle]
 pub extern "C" fn dovranis_most_words() -> usize
     ensures { λ r. ⌜ r ≡ mostWords ⌝ }
@@ -16,20 +20,21 @@ pub extern "C" fn dovranis_most_words() -> usize
     MOST_WORDS
 }
 
-// `hookup::draw`. The result is 0 for a sheet, with its words and crossings stored, and the check's number for a refusal, with its place stored.
 #[no_mangle]
-pub extern "C" fn dovranis_draw(
-    list: &[u32],
-    sheet: &mut [u32],
-    words: &mut usize,
-    crossings: &mut usize,
-    place: &mut usize,
-) -> u32
-    ensures { λ r. ⌜ Called (now (list .entry)) (now (sheet .entry)) (now (sheet .exit))
+pub extern "C" fn dovranis_most_quoted_words() -> usize
+    ensures { λ r. ⌜ r ≡ mostQuotedWords ⌝ }
+{
+    MOST_QUOTED_WORDS
+}
+
+// An answer by a result and lent numbers: 0 for a sheet, with its words and crossings stored, and the check's number for a refusal, with its place stored.
+fn tell(answer: Answer, words: &mut usize, crossings: &mut usize, place: &mut usize) -> u32
+    requires { ⌜ Numbered answer ⌝ }
+    ensures { λ r. ⌜ Told answer
         (lent (now (words .entry)) (now (crossings .entry)) (now (place .entry)))
         (lent (now (words .exit)) (now (crossings .exit)) (now (place .exit))) r ⌝ }
 {
-    match draw(list, sheet) {
+    match answer {
         Answer::Sheet {
             words: written,
             crossings: counted,
@@ -46,4 +51,42 @@ pub extern "C" fn dovranis_draw(
             check as u32
         }
     }
+}
+
+// `hookup::draw` with nothing given.
+#[no_mangle]
+pub extern "C" fn dovranis_draw(
+    list: &[u32],
+    sheet: &mut [u32],
+    words: &mut usize,
+    crossings: &mut usize,
+    place: &mut usize,
+) -> u32
+    ensures { λ r. ⌜ Called plain (now (list .entry)) (now (sheet .entry)) (now (sheet .exit))
+        (lent (now (words .entry)) (now (crossings .entry)) (now (place .entry)))
+        (lent (now (words .exit)) (now (crossings .exit)) (now (place .exit))) r ⌝ }
+{
+    tell(draw(list, sheet, Options::plain()), words, crossings, place)
+}
+
+// `hookup::draw` with a discount, in hundredths of a percent.
+#[no_mangle]
+pub extern "C" fn dovranis_draw_quoted(
+    list: &[u32],
+    sheet: &mut [u32],
+    discount: u32,
+    words: &mut usize,
+    crossings: &mut usize,
+    place: &mut usize,
+) -> u32
+    ensures { λ r. ⌜ Called (quoted discount) (now (list .entry)) (now (sheet .entry)) (now (sheet .exit))
+        (lent (now (words .entry)) (now (crossings .entry)) (now (place .entry)))
+        (lent (now (words .exit)) (now (crossings .exit)) (now (place .exit))) r ⌝ }
+{
+    tell(
+        draw(list, sheet, Options::quoted(discount)),
+        words,
+        crossings,
+        place,
+    )
 }

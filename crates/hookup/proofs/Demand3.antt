@@ -1,11 +1,11 @@
--- Demand 3, whole, the order of demand 2, and the crossings (2026-02), for the words of the drawing of every list that is not sent back. Assumes nothing.
+-- Demand 3, whole, the order of demand 2, and the crossings (2026-02), for the words of the drawing of every list that is not sent back, whatever the caller gave. Assumes nothing.
 use Prim.Native.Nat.{ℕ, _+_, _<_, _≤_, _^_}
 use native.Mathlib.Omega.{arith}
 use mathlib.Core.Path.{_≡_, refl, sym, ap, _∙_, subst}
 use mathlib.Core.Logic.{inl, inr, ⊎-elim}
 use mathlib.Core.List.{List, List·Memᴰ}
 use lib.ListN.{length, getD, length-map}
-use Rattle.words.specs.Limits.{mostWords}
+use Rattle.prices.specs.declared.Discount.{Discount}
 use Rattle.lists.proofs.Select.{getD-map}
 use Rattle.station.specs.Station.{Station, stationOf, noCable}
 use Rattle.station.specs.Checks.{Clear}
@@ -16,18 +16,17 @@ use Rattle.order.specs.StOrder.{Smallest}
 use Rattle.order.proofs.Bipolar.{Orderable}
 use Rattle.order.proofs.StOrder.{order-ordering, order-smallest}
 use Rattle.order.proofs.Ends.{parts-joined}
-use Rattle.order.proofs.Passed.{list-orderable, list-once, lines-most}
+use Rattle.order.proofs.Passed.{list-orderable, list-once}
 use Rattle.drawing.specs.Drawing.{Drawing, routeAt, Meets, crossings}
-use Rattle.drawing.specs.Sheet.{sheetWords}
+use Rattle.drawing.specs.Sheet.{quotedWords}
 use Rattle.drawing.specs.Reading.{Ends, noEnds, partsByRow, lengthsIn}
 use Rattle.drawing.specs.Sizes.{Sizes}
 use Rattle.drawing.specs.Measured.{Measured}
-use Rattle.drawing.proofs.ReadBack.{words-fit}
+use Rattle.hookup.specs.declared.Options.{Options}
 use Rattle.hookup.specs.Drawing.{drawing}
 use Rattle.hookup.specs.Reading.{endsBy, drawingOf}
 use Rattle.hookup.specs.Demand.{Form, Demand3, rowOf, Ordered, Crossed}
-use Rattle.hookup.proofs.Drawn as drawn
-use Rattle.hookup.proofs.Drawn.{endsOf, fits, reads, meets, sizes, measured}
+use Rattle.hookup.proofs.Drawn.{endsOf, mostWordsFor, fits, reads, meets, sizes, measured, quote, all-fit, quoted-most}
 use Rattle.hookup.proofs.PartRows.{parts-by-row, rank-row, bottom-rows}
 
 module _ (st : Station) (H : Orderable st) where
@@ -45,8 +44,8 @@ module _ (st : Station) (H : Orderable st) where
   unfolding routeAt endsBy
   last-at i h = fits st H .routes-fit i (in-ends i h) .last-is ∙ ap (λ (e : Ends). e .last) (ends-at i h)
 
-  form : Form st (drawing st) (sheetWords (drawing st))
-  form = record {
+  form : (discount : Discount) → Form discount st (drawing st) (quotedWords discount (drawing st))
+  form discount = record {
     words = refl;
     parts = fits st H .parts-count;
     cables = fits st H .routes-count ∙ length-map (st .cables) (endsBy (order st));
@@ -57,52 +56,55 @@ module _ (st : Station) (H : Orderable st) where
         (parts-joined (order st) (getD (st .cables) i noCable));
   }
 
-module _ (list : List ℕ) (pass : Clear allChecks list) where
+-- the words of a list's sheet
+abbrev pub sheetOf : Options → List ℕ → List ℕ
+sheetOf options list = quotedWords (options .discount) (drawing (stationOf list))
+
+module _ (options : Options) (list : List ℕ) (pass : Clear allChecks list) where
   orderable : Orderable (stationOf list)
   orderable = list-orderable list pass
 
   -- what is read off the sheet is the drawing
-  read-off : drawingOf list (sheetWords (drawing (stationOf list))) ≡ drawing (stationOf list)
+  read-off : drawingOf list (sheetOf options list) ≡ drawing (stationOf list)
   unfolding drawingOf
-  read-off = reads (stationOf list) orderable
+  read-off = reads (stationOf list) orderable (options .discount)
 
   -- demand 3
-  pub demand3 : Demand3 list (sheetWords (drawing (stationOf list)))
+  pub demand3 : Demand3 options list (sheetOf options list)
   demand3 =
       let st : Station = stationOf list in
-      let sheet : List ℕ = sheetWords (drawing st) in
+      let sheet : List ℕ = sheetOf options list in
       record {
-        form = subst (λ (d : Drawing). Form st d sheet) (sym read-off) (form st orderable);
+        form = subst (λ (d : Drawing). Form (options .discount) st d sheet) (sym read-off) (form st orderable (options .discount));
         meetings = subst (λ (d : Drawing). Meets d) (sym read-off) (meets st orderable);
-        sizes = subst (λ (d : Drawing). Sizes (st .parts) (length (st .cables)) d sheet) (sym read-off) (sizes st orderable (list-once list pass));
+        sizes = subst (λ (d : Drawing). Sizes (st .parts) (length (st .cables)) d sheet) (sym read-off) (sizes st orderable (options .discount) (list-once list pass));
         lengths =
             subst (λ (d : Drawing). Measured (st .parts) (length (st .cables)) d (lengthsIn (st .parts) (length (st .cables)) sheet)) (sym read-off)
-            (measured st orderable);
+            (measured st orderable (options .discount));
+        quote = quote st orderable (options .discount);
       }
 
   -- of demand 2: 'The parts stand in the smallest st-ordering between the two named ends'
-  pub ordered : Ordered list (sheetWords (drawing (stationOf list)))
+  pub ordered : Ordered list (sheetOf options list)
   ordered =
       let st : Station = stationOf list in
-      let sheet : List ℕ = sheetWords (drawing st) in
-      let e : partsByRow (st .parts) sheet ≡ order st = parts-by-row list orderable in
+      let sheet : List ℕ = sheetOf options list in
+      let e : partsByRow (st .parts) sheet ≡ order st = parts-by-row (options .discount) list orderable in
       record {
         smallest = subst (λ (l : List ℕ). Smallest st l) (sym e) (order-smallest st orderable);
         rows = λ k h.
             ap (λ (l : List ℕ). rowOf sheet (getD l k 0)) e
-            ∙ rank-row st orderable k (omega (arith, order-ordering st orderable .all)) ∙ ap (λ (d : ℕ). d + k) (bottom-rows st orderable);
+            ∙ rank-row (options .discount) st orderable k (omega (arith, order-ordering st orderable .all)) ∙ ap (λ (d : ℕ). d + k) (bottom-rows (options .discount) st orderable);
       }
 
   -- 2026-02: the crossings of the drawing are those that its words show
-  pub crossed : Crossed list (sheetWords (drawing (stationOf list))) (crossings (drawing (stationOf list)))
+  pub crossed : Crossed list (sheetOf options list) (crossings (drawing (stationOf list)))
   crossed = record { pairs = sym (ap crossings read-off) }
 
   -- every word has 32 bits
-  pub sheet-fits : (w : ℕ) → List·Memᴰ w (sheetWords (drawing (stationOf list))) → w < 2 ^ 32
-  sheet-fits =
-      words-fit (stationOf list .parts) (endsOf (stationOf list)) (drawing (stationOf list)) (fits (stationOf list) orderable)
-      (omega (arith, length-map (stationOf list .cables) (endsBy (order (stationOf list))), lines-most list pass))
+  pub sheet-fits : (w : ℕ) → List·Memᴰ w (sheetOf options list) → w < 2 ^ 32
+  sheet-fits = all-fit (stationOf list) orderable (options .discount)
 
   -- an output of so many words always suffices
-  pub words-most : length (sheetWords (drawing (stationOf list))) ≤ mostWords
-  words-most = drawn.words-most (stationOf list) orderable
+  pub words-most : length (sheetOf options list) ≤ mostWordsFor (options .discount)
+  words-most = quoted-most (stationOf list) orderable (options .discount)

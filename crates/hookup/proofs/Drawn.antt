@@ -1,12 +1,15 @@
 -- The drawing of a station that was not sent back: it is the layout of its cables in ranks, under the parts' own numbers, and has its meetings,
--- sizes, crossings and lengths. Assumes nothing.
-use Prim.Native.Nat.{ℕ, _+_, _*_, _<_, _≤_}
+-- sizes, crossings, lengths and prices. Assumes nothing.
+use Prim.Native.Nat.{ℕ, _+_, _*_, _<_, _≤_, _^_}
 use native.Mathlib.Omega.{arith}
 use mathlib.Core.Path.{_≡_, refl, sym, ap, subst, _∙_}
-use mathlib.Core.List.{List, map}
+use mathlib.Core.List.{List, map, List·Memᴰ}
 use lib.ListN.{length, getD, length-map}
 use lib.Seq.{ext-getD}
-use Rattle.words.specs.Limits.{mostParts, mostWords}
+use Rattle.words.specs.Limits.{mostParts, mostCables, mostWords, mostQuotedWords}
+use Rattle.prices.specs.declared.Discount.{Discount}
+use Rattle.prices.specs.declared.Discount.the-variants.{NotGiven, Given}
+use Rattle.prices.specs.Quoted.{Quoted}
 use Rattle.lists.specs.Select.{tabulate, count}
 use Rattle.lists.proofs.Select.{getD-map, getD-tabulate, length-tabulate}
 use Rattle.station.specs.Station.{Station, noCable}
@@ -21,12 +24,12 @@ use Rattle.order.proofs.Graphs.{EndsOnce, cables-le}
 use Rattle.order.proofs.Ends.{lower-part, upper-part}
 use Rattle.drawing.specs.Drawing.{Drawing, pointsAt, Meets, crossings, renumbered}
 use Rattle.drawing.specs.Lengths.{lineLength, mostLength}
-use Rattle.drawing.specs.Sheet.{sheetWords}
-use Rattle.drawing.specs.Reading.{Ends, noEnds, lengthsIn}
+use Rattle.drawing.specs.Sheet.{sheetWords, quotedWords}
+use Rattle.drawing.specs.Reading.{Ends, noEnds, lengthsIn, quoteIn}
 use Rattle.drawing.specs.Sizes.{Sizes}
 use Rattle.drawing.specs.Measured.{Measured}
-use Rattle.drawing.proofs.ReadBack.{DrawingFits, read-back}
-use Rattle.drawing.proofs.Measured as of-drawing
+use Rattle.drawing.proofs.ReadBack.{DrawingFits}
+use Rattle.drawing.proofs.Quoted.{quoted-length, quoted-renumbered, drawing-read, lengths-read, quote-read, quoted-fits, quoted-corners, sizes-of-words}
 use Rattle.drawing.proofs.Renumbered.{Names, routes-renumbered, points-renumbered, meets-renumbered, crossings-renumbered, length-renumbered}
 use Rattle.drawing.specs.Counts.{isCorner}
 use Rattle.drawing.proofs.Sized.{named, fits-renumbered, corner-words-renumbered, sizes-renumbered}
@@ -42,6 +45,11 @@ use Rattle.hookup.specs.Reading.{endsBy, readBy}
 -- the cables' two parts, by line, as a sheet of the station is read
 abbrev pub endsOf : Station → List Ends
 endsOf st = map (endsBy (order st)) (st .cables)
+
+-- the words of the longest sheet, without a discount and with one
+abbrev pub mostWordsFor : Discount → ℕ
+mostWordsFor NotGiven = mostWords
+mostWordsFor (Given discount) = mostQuotedWords
 
 module _ (st : Station) where
   pub is-renumbered : drawing st ≡ renumbered (order st) (layout (graphOf st))
@@ -81,8 +89,12 @@ module _ (st : Station) where
     pub crossings-are : crossings (layout (graphOf st)) ≡ crossings (drawing st)
     crossings-are = sym (ap crossings is-renumbered ∙ crossings-renumbered (order st) (layout (graphOf st)) names (laid.meets (graphOf st) R))
 
-    pub length-is : length (sheetWords (layout (graphOf st))) ≡ length (sheetWords (drawing st))
+    length-is : length (sheetWords (layout (graphOf st))) ≡ length (sheetWords (drawing st))
     length-is = sym (ap (λ (d : Drawing). length (sheetWords d)) is-renumbered ∙ length-renumbered (order st) (layout (graphOf st)))
+
+    pub quoted-length-is : (discount : Discount) → length (quotedWords discount (layout (graphOf st))) ≡ length (quotedWords discount (drawing st))
+    quoted-length-is discount =
+        sym (ap (λ (d : Drawing). length (quotedWords discount d)) is-renumbered ∙ quoted-renumbered discount (order st) (layout (graphOf st)))
 
     -- the ends that a reader takes are those of the layout, under their names
     ends-at :
@@ -115,11 +127,6 @@ module _ (st : Station) where
         (subst (λ (n : ℕ). DrawingFits n (map (named (order st)) (tabulate (size (graphOf st)) (laid.endsOf (graphOf st)))) (renumbered (order st) (layout (graphOf st)))) (graph-parts st)
         (fits-renumbered (order st) (layout (graphOf st)) names (laid.meets (graphOf st) R) (graphOf st .parts) _ (laid.fits (graphOf st) R two most))))
 
-    -- what is read off the sheet is the drawing
-    pub reads : readBy (order st) st (sheetWords (drawing st)) ≡ drawing st
-    unfolding readBy
-    reads = read-back (st .parts) (endsOf st) (drawing st) fits
-
     -- the layout's own facts, as the laws of other numbers take them
     ranks : List Ends
     ranks = tabulate (size (graphOf st)) (laid.endsOf (graphOf st))
@@ -151,9 +158,9 @@ module _ (st : Station) where
     all-words = omega (arith, length-is, laid.words-count (graphOf st) R two, graph-parts st, graph-size st)
 
     -- where the two lowest ranks, and the two highest, are joined once
-    pub sizes : EndsOnce (graphOf st) → Sizes (st .parts) (length (st .cables)) (drawing st) (sheetWords (drawing st))
+    sheet-sizes : EndsOnce (graphOf st) → Sizes (st .parts) (length (st .cables)) (drawing st) (sheetWords (drawing st))
     unfolding ranks
-    sizes once =
+    sheet-sizes once =
         let G : StGraph = graphOf st in
         subst (λ (d : Drawing). Sizes (st .parts) (length (st .cables)) d (sheetWords d)) (sym is-renumbered)
         (subst (λ (m : ℕ). Sizes (st .parts) m (renumbered (order st) (layout G)) (sheetWords (renumbered (order st) (layout G)))) (ranks-all ∙ graph-size st)
@@ -161,7 +168,7 @@ module _ (st : Station) where
         (sizes-renumbered (order st) (layout G) names (laid.meets G R) (G .parts) ranks (laid.fits G R two most) few
         (subst (λ (m : ℕ). Sizes (G .parts) m (layout G) (sheetWords (layout G))) (sym ranks-all) (laid.sizes G R two most (omega (arith, graph-parts st, H .wired .least)) once)))))
 
-    -- the lengths on the sheet
+    -- no line is longer
     length-most : (i : ℕ) → i < length (drawing st .routes) → lineLength (pointsAt (drawing st) i) ≤ mostLength (st .parts)
     length-most i h =
         let G : StGraph = graphOf st in
@@ -173,14 +180,53 @@ module _ (st : Station) where
           graph-parts st,
         )
 
-    pub measured : Measured (st .parts) (length (st .cables)) (drawing st) (lengthsIn (st .parts) (length (st .cables)) (sheetWords (drawing st)))
-    measured =
-        let e : length (endsOf st) ≡ length (st .cables) = length-map (st .cables) (endsBy (order st)) in
-        subst (λ (m : ℕ). Measured (st .parts) m (drawing st) (lengthsIn (st .parts) m (sheetWords (drawing st)))) (fits .routes-count ∙ e)
-        (of-drawing.measured (st .parts) (endsOf st) (drawing st) fits
-        (omega (arith, e, graph-size st, laid.few-lines (graphOf st) R two most)) length-most)
+    lines : length (drawing st .routes) ≡ length (st .cables)
+    lines = fits .routes-count ∙ length-map (st .cables) (endsBy (order st))
+
+    few-cables : length (drawing st .routes) ≤ mostCables
+    few-cables = omega (arith, lines, graph-size st, graph-parts st, cables-le (graphOf st) R, H .wired .most)
+
+    small : st .parts ≤ mostParts
+    small = H .wired .most
+
+    -- What the words show, whatever discount is given
+
+    module _ (discount : Discount) where
+      -- what is read off the sheet is the drawing
+      pub reads : readBy (order st) st (quotedWords discount (drawing st)) ≡ drawing st
+      unfolding readBy
+      reads = drawing-read (st .parts) (endsOf st) (drawing st) fits small few-cables length-most discount
+
+      pub sizes : EndsOnce (graphOf st) → Sizes (st .parts) (length (st .cables)) (drawing st) (quotedWords discount (drawing st))
+      sizes once =
+          sizes-of-words (st .parts) (length (st .cables)) (drawing st)
+          (quoted-corners (st .parts) (endsOf st) (drawing st) fits small few-cables length-most discount) (sheet-sizes once)
+
+      -- the lengths on the sheet
+      pub measured :
+          Measured (st .parts) (length (st .cables)) (drawing st) (lengthsIn (st .parts) (length (st .cables)) (quotedWords discount (drawing st)))
+      measured =
+          subst (λ (m : ℕ). Measured (st .parts) m (drawing st) (lengthsIn (st .parts) m (quotedWords discount (drawing st)))) lines
+          (lengths-read (st .parts) (endsOf st) (drawing st) fits small few-cables length-most discount)
+
+      -- and the prices
+      pub quote :
+          Quoted discount (length (st .cables)) (lengthsIn (st .parts) (length (st .cables)) (quotedWords discount (drawing st)))
+          (quoteIn (st .parts) (length (st .cables)) (quotedWords discount (drawing st)))
+      quote =
+          subst
+          (λ (m : ℕ).
+          Quoted discount m (lengthsIn (st .parts) m (quotedWords discount (drawing st))) (quoteIn (st .parts) m (quotedWords discount (drawing st)))) lines
+          (quote-read (st .parts) (endsOf st) (drawing st) fits small few-cables length-most discount)
+
+      pub all-fit : (w : ℕ) → List·Memᴰ w (quotedWords discount (drawing st)) → w < 2 ^ 32
+      all-fit = quoted-fits (st .parts) (endsOf st) (drawing st) fits small few-cables length-most discount
 
     -- four cables at a part at most
-    pub words-most : length (sheetWords (drawing st)) ≤ mostWords
+    words-most : length (sheetWords (drawing st)) ≤ mostWords
     words-most =
         omega (arith, all-words, cables-le (graphOf st) R, bottomRows-le (graphOf st) R, topRows-le (graphOf st) R, graph-parts st, graph-size st, H .wired .most)
+
+    pub quoted-most : (discount : Discount) → length (quotedWords discount (drawing st)) ≤ mostWordsFor discount
+    quoted-most NotGiven = omega (arith, quoted-length NotGiven (drawing st), words-most)
+    quoted-most (Given k) = omega (arith, quoted-length (Given k) (drawing st), words-most, few-cables)

@@ -18,6 +18,7 @@ use Rattle.lists.proofs.Places.{mem-place}
 use Rattle.lists.proofs.Rising.{strictly-of-places, sortBy-strictly}
 use Rattle.words.specs.Words.{secondOf, part}
 use Rattle.words.proofs.Words.{fields-apart}
+use Rattle.prices.specs.declared.Discount.{Discount}
 use Rattle.station.specs.Station.{Cable, Station, stationOf, joins, degree, noCable}
 use Rattle.order.specs.Order.{order, rankIn}
 use Rattle.order.specs.StOrder.{StOrdering}
@@ -29,7 +30,8 @@ use Rattle.order.specs.Graph.{size, lower, linesAt}
 use Rattle.order.specs.Ends.{graphOf}
 use Rattle.drawing.specs.Spots.{Spot, origin}
 use Rattle.drawing.specs.Drawing.{Drawing, spotOf}
-use Rattle.drawing.specs.Sheet.{partSpotWord, headSection, partsSection, cablesSection, lengthsSection, sheetWords}
+use Rattle.drawing.specs.Sheet.{partSpotWord, headSection, partsSection, cablesSection, lengthsSection, quoteSection, sheetWords, quotedWords}
+use Rattle.drawing.proofs.WordCounts.{section-lengths}
 use Rattle.drawing.specs.Reading.{partsByRow}
 use Rattle.drawing.proofs.ReadBack.{SpotFits}
 use Rattle.drawing.proofs.Renumbered.{spot-renumbered}
@@ -40,7 +42,7 @@ use Rattle.hookup.specs.Drawing.{drawing}
 use Rattle.hookup.specs.Demand.{rowsBelow, rowOf}
 use Rattle.hookup.proofs.Drawn.{is-renumbered, fits}
 
--- the word of part p is word 1 + p
+-- the word of part p is word 1 + p, whatever lies behind the sheet
 part-word : (d : Drawing) (p : ℕ) → p < length (d .parts) → getD (sheetWords d) (1 + p) 0 ≡ partSpotWord (spotOf d p)
 unfolding sheetWords headSection partsSection spotOf
 part-word d p h =
@@ -48,11 +50,16 @@ part-word d p h =
     let g : p < length (map partSpotWord (d .parts)) = omega (arith, length-map (d .parts) partSpotWord) in
     rw q (List·getD-append (map partSpotWord (d .parts)) (cablesSection d ++ lengthsSection d) 0 p g ∙ getD-map partSpotWord (d .parts) p origin 0 h)
 
+part-word-quoted : (discount : Discount) (d : Drawing) (p : ℕ) → p < length (d .parts) → getD (quotedWords discount d) (1 + p) 0 ≡ partSpotWord (spotOf d p)
+unfolding quotedWords
+part-word-quoted discount d p h =
+    List·getD-append (sheetWords d) (quoteSection discount d) 0 (1 + p) (omega (arith, section-lengths d)) ∙ part-word d p h
+
 word-row : (s : Spot) → SpotFits s → secondOf (partSpotWord s) ≡ s .y
 unfolding partSpotWord
 word-row s f = fields-apart part (s .x) (s .y) (omega arith) (f .x-fits) (f .y-fits) .second-is
 
-module _ (st : Station) (H : Orderable st) where
+module _ (discount : Discount) (st : Station) (H : Orderable st) where
   part-spot : (p : ℕ) → p < st .parts → spotOf (drawing st) p ≡ rankSpot (graphOf st) (rankIn (order st) p)
   unfolding rankIn
   part-spot p h =
@@ -65,17 +72,17 @@ module _ (st : Station) (H : Orderable st) where
   unfolding rankSpot partSpot row
   part-row p h = ap (λ (s : Spot). s .y) (part-spot p h)
 
-  pub word-of-row : (p : ℕ) → p < st .parts → secondOf (getD (sheetWords (drawing st)) (1 + p) 0) ≡ bottomRows (graphOf st) + rankIn (order st) p
+  pub word-of-row : (p : ℕ) → p < st .parts → secondOf (getD (quotedWords discount (drawing st)) (1 + p) 0) ≡ bottomRows (graphOf st) + rankIn (order st) p
   unfolding spotOf
   word-of-row p h =
       let g : p < length (drawing st .parts) = omega (arith, fits st H .parts-count) in
-      ap (λ (w : ℕ). secondOf w) (part-word (drawing st) p g) ∙ word-row (spotOf (drawing st) p) (fits st H .parts-fit p g) ∙ part-row p h
+      ap (λ (w : ℕ). secondOf w) (part-word-quoted discount (drawing st) p g) ∙ word-row (spotOf (drawing st) p) (fits st H .parts-fit p g) ∙ part-row p h
 
   O : StOrdering st (order st)
   O = order-ordering st H
 
   -- the row of the part of rank k
-  pub rank-row : (k : ℕ) → k < length (order st) → rowOf (sheetWords (drawing st)) (getD (order st) k 0) ≡ bottomRows (graphOf st) + k
+  pub rank-row : (k : ℕ) → k < length (order st) → rowOf (quotedWords discount (drawing st)) (getD (order st) k 0) ≡ bottomRows (graphOf st) + k
   unfolding rowOf
   rank-row k h =
       let g : k < st .parts = omega (arith, O .all) in
@@ -84,9 +91,9 @@ module _ (st : Station) (H : Orderable st) where
   order-inside : (p : ℕ) → List·Memᴰ p (order st) → p < st .parts
   order-inside p m = let t = mem-place (order st) 0 m in omega (arith, O .inside (t .0) (omega (arith, t .1, O .all)), t .2)
 
-  pub by-row : sortBy (rowOf (sheetWords (drawing st))) (range (st .parts)) ≡ order st
+  pub by-row : sortBy (rowOf (quotedWords discount (drawing st))) (range (st .parts)) ≡ order st
   by-row =
-      sortBy-strictly (rowOf (sheetWords (drawing st))) (st .parts) (order st) (strictly-of-places (rowOf (sheetWords (drawing st))) (order st) (λ i j h g. omega (arith, rank-row i (omega arith), rank-row j g)))
+      sortBy-strictly (rowOf (quotedWords discount (drawing st))) (st .parts) (order st) (strictly-of-places (rowOf (quotedWords discount (drawing st))) (order st) (λ i j h g. omega (arith, rank-row i (omega arith), rank-row j g)))
       order-inside (order-mem st H)
 
   -- The rows below s, by the cables of s
@@ -139,6 +146,8 @@ module _ (st : Station) (H : Orderable st) where
   bottom-rows = ap (λ (k : ℕ). oneIf (eqb k 4)) source-lines
 
 -- the parts by rising row are the parts by rank
-pub parts-by-row : (list : List ℕ) → Orderable (stationOf list) → partsByRow (stationOf list .parts) (sheetWords (drawing (stationOf list))) ≡ order (stationOf list)
+pub parts-by-row :
+    (discount : Discount) (list : List ℕ) → Orderable (stationOf list)
+    → partsByRow (stationOf list .parts) (quotedWords discount (drawing (stationOf list))) ≡ order (stationOf list)
 unfolding partsByRow rowOf
-parts-by-row list H = by-row (stationOf list) H
+parts-by-row discount list H = by-row discount (stationOf list) H

@@ -5,6 +5,7 @@ use mathlib.Core.Path.{_≡_, sym, ap, ap₂, subst, _∙_}
 use mathlib.Core.List.{List}
 use lib.ListN.{length, getD}
 use Rattle.words.specs.Limits.{mostCables}
+use Rattle.prices.specs.declared.Discount.{Discount}
 use Rattle.station.specs.Station.{stationOf}
 use Rattle.station.specs.Checks.{Clear}
 use Rattle.order.specs.Order.{order, rankIn}
@@ -19,11 +20,11 @@ use Rattle.order.proofs.Passed.{list-wired, list-orderable, list-ranked}
 use Rattle.order.proofs.StOrder.{order-ordering}
 use Rattle.order.proofs.Ranks.{graph-parts, rank-below, part-of-rank, rank-of-part}
 use Rattle.drawing.specs.Drawing.{Drawing, crossings, renumbered}
-use Rattle.drawing.specs.Sheet.{sheetWords}
+use Rattle.drawing.specs.Sheet.{quotedWords}
 use Rattle.layout.specs.Layout.{layout}
 use Rattle.layout.specs.Arrays.{GraphFits}
 use Rattle.hookup.specs.Drawing.{drawing}
-use Rattle.hookup.proofs.Drawn.{is-renumbered, crossings-are, length-is}
+use Rattle.hookup.proofs.Drawn.{is-renumbered, crossings-are, quoted-length-is}
 
 module _ (list : List ℕ) (pass : Clear allChecks list) where
   -- the layout may start from the cables in ranks
@@ -41,8 +42,9 @@ module _ (list : List ℕ) (pass : Clear allChecks list) where
     count : g .parts ≡ stationOf list .parts
     count = ap (λ (G : StGraph). G .parts) e ∙ graph-parts (stationOf list)
 
-    pub words-are : length (sheetWords (layout (graphIn g))) ≡ length (sheetWords (drawing (stationOf list)))
-    words-are = ap (λ (G : StGraph). length (sheetWords (layout G))) e ∙ length-is (stationOf list) (list-orderable list pass)
+    pub words-are : (discount : Discount) → length (quotedWords discount (layout (graphIn g))) ≡ length (quotedWords discount (drawing (stationOf list)))
+    words-are discount =
+        ap (λ (G : StGraph). length (quotedWords discount (layout G))) e ∙ quoted-length-is (stationOf list) (list-orderable list pass) discount
 
     pub crossings-counted : crossings (layout (graphIn g)) ≡ crossings (drawing (stationOf list))
     crossings-counted = ap (λ (G : StGraph). crossings (layout G)) e ∙ crossings-are (stationOf list) (list-orderable list pass)
@@ -65,7 +67,9 @@ module _ (list : List ℕ) (pass : Clear allChecks list) where
             ap (λ (l : List ℕ). rankIn l (getD l k 0)) names-are ∙ rank-of-part (stationOf list) (list-orderable list pass) k (omega (arith, count));
       }
 
-      pub sheet-is : sheetWords (renumbered (namesIn (g .parts) r) (layout (graphIn g))) ≡ sheetWords (drawing (stationOf list))
-      sheet-is =
-          ap₂ (λ (l : List ℕ) (G : StGraph). sheetWords (renumbered l (layout G))) names-are e
-          ∙ sym (ap (λ (d : Drawing). sheetWords d) (is-renumbered (stationOf list)))
+      pub sheet-is :
+          (discount : Discount)
+          → quotedWords discount (renumbered (namesIn (g .parts) r) (layout (graphIn g))) ≡ quotedWords discount (drawing (stationOf list))
+      sheet-is discount =
+          ap₂ (λ (l : List ℕ) (G : StGraph). quotedWords discount (renumbered l (layout G))) names-are e
+          ∙ sym (ap (λ (d : Drawing). quotedWords discount d) (is-renumbered (stationOf list)))

@@ -1,13 +1,15 @@
--- The eleven refusals, the boundaries, and stations A to D of document 01, with the lengths of request 2026-01, the crossings of 2026-02 and the
--- corners of 2026-04, as the definitions give them. Assumes nothing.
+-- The eleven refusals, the boundaries, and stations A to D of document 01, with the lengths of request 2026-01, the crossings of 2026-02, the
+-- corners of 2026-04 and the prices of 2026-05, as the definitions give them. Assumes nothing.
 use Prim.Native.Nat.{ℕ}
 use mathlib.Core.Path.{_≡_, refl}
 use mathlib.Core.Bool.{true, false}
-use mathlib.Core.List.{List, [], _∷_, map}
+use mathlib.Core.List.{List, [], _∷_, _++_, map}
 use lib.ListN.{length}
 use lib.Dec.{eqb}
 use Rattle.lists.specs.Select.{count, sum}
 use Rattle.words.specs.Words.{kindOf, corner}
+use Rattle.prices.specs.PriceList.{readyLength}
+use Rattle.prices.specs.Quote.{cablePrice, cablePrices}
 use Rattle.station.specs.Station.{stationOf}
 use Rattle.order.specs.Reach.{connected}
 use Rattle.order.specs.Order.{order}
@@ -16,6 +18,8 @@ use Rattle.drawing.specs.Spots.{spotAt}
 use Rattle.drawing.specs.Drawing.{Drawing, routeAt, crossPair, crossings}
 use Rattle.drawing.specs.Lengths.{cableLengths}
 use Rattle.drawing.specs.Sheet.{sheetWords}
+use Rattle.drawing.proofs.Worked.{thirteen}
+use Rattle.hookup.specs.Options.{plain, quoted}
 use Rattle.hookup.specs.Drawing.{drawing}
 use Rattle.hookup.specs.Outcome.{drawn, sentBack, outcome}
 use Rattle.hookup.proofs.Computing.{hookup-computing}
@@ -51,28 +55,28 @@ abbrev room : ℕ
 room = 4096
 
 pub record Table : Type 0 where
-  refusal-1 : outcome [] room ≡ sentBack 1 0
-  refusal-2 : outcome (0x20030000 ∷ 0x20000002 ∷ []) room ≡ sentBack 2 0
-  refusal-3 : outcome (0x10030001 ∷ 0x20000002 ∷ []) room ≡ sentBack 3 3
-  refusal-4 : outcome (0x10020000 ∷ 0x20000001 ∷ []) room ≡ sentBack 4 2
-  refusal-5 : outcome (0x10030000 ∷ 0x20000003 ∷ []) room ≡ sentBack 5 1
-  refusal-6 : outcome (0x10030000 ∷ 0x20001001 ∷ []) room ≡ sentBack 6 1
-  refusal-7 : outcome (0x10030002 ∷ 0x20000002 ∷ 0x30000001 ∷ 0x30001000 ∷ []) room ≡ sentBack 7 3
-  refusal-8 : outcome (0x10060005 ∷ 0x20000005 ∷ 0x30000001 ∷ 0x30000002 ∷ 0x30000003 ∷ 0x30000004 ∷ 0x30000005 ∷ []) room ≡ sentBack 8 0
-  refusal-9 : outcome (0x10030001 ∷ 0x20000002 ∷ 0x30000001 ∷ []) room ≡ sentBack 9 2
-  refusal-10 : outcome (0x10030002 ∷ 0x20000002 ∷ 0x30000001 ∷ 0x30001002 ∷ []) room ≡ sentBack 10 1
+  refusal-1 : outcome plain [] room ≡ sentBack 1 0
+  refusal-2 : outcome plain (0x20030000 ∷ 0x20000002 ∷ []) room ≡ sentBack 2 0
+  refusal-3 : outcome plain (0x10030001 ∷ 0x20000002 ∷ []) room ≡ sentBack 3 3
+  refusal-4 : outcome plain (0x10020000 ∷ 0x20000001 ∷ []) room ≡ sentBack 4 2
+  refusal-5 : outcome plain (0x10030000 ∷ 0x20000003 ∷ []) room ≡ sentBack 5 1
+  refusal-6 : outcome plain (0x10030000 ∷ 0x20001001 ∷ []) room ≡ sentBack 6 1
+  refusal-7 : outcome plain (0x10030002 ∷ 0x20000002 ∷ 0x30000001 ∷ 0x30001000 ∷ []) room ≡ sentBack 7 3
+  refusal-8 : outcome plain (0x10060005 ∷ 0x20000005 ∷ 0x30000001 ∷ 0x30000002 ∷ 0x30000003 ∷ 0x30000004 ∷ 0x30000005 ∷ []) room ≡ sentBack 8 0
+  refusal-9 : outcome plain (0x10030001 ∷ 0x20000002 ∷ 0x30000001 ∷ []) room ≡ sentBack 9 2
+  refusal-10 : outcome plain (0x10030002 ∷ 0x20000002 ∷ 0x30000001 ∷ 0x30001002 ∷ []) room ≡ sentBack 10 1
   -- 2026-01: 'check 11 measures them too: the triangle needs 13'
-  refusal-11 : outcome triangle 12 ≡ sentBack 11 13
+  refusal-11 : outcome plain triangle 12 ≡ sentBack 11 13
   -- 'With 256 parts check 4 passes and with 257 it refuses'
-  parts-256 : outcome (0x11000000 ∷ 0x20000002 ∷ []) room ≡ sentBack 9 1
-  parts-257 : outcome (0x11010000 ∷ 0x20000002 ∷ []) room ≡ sentBack 4 257
+  parts-256 : outcome plain (0x11000000 ∷ 0x20000002 ∷ []) room ≡ sentBack 9 1
+  parts-257 : outcome plain (0x11010000 ∷ 0x20000002 ∷ []) room ≡ sentBack 4 257
   -- 'four cables at a part pass check 8'
-  four-cables : outcome (0x10050004 ∷ 0x20000004 ∷ 0x30000001 ∷ 0x30000002 ∷ 0x30000003 ∷ 0x30000004 ∷ []) room ≡ sentBack 10 0
+  four-cables : outcome plain (0x10050004 ∷ 0x20000004 ∷ 0x30000001 ∷ 0x30000002 ∷ 0x30000003 ∷ 0x30000004 ∷ []) room ≡ sentBack 10 0
   -- 2026-01: 'The triangle ends `80000001 80001001 80002004 a0000006`', and an output of 13 takes it
   triangle-13 :
-      outcome triangle 13
+      outcome plain triangle 13
       ≡ drawn
-      (0x40001002 ∷ 0x50000000 ∷ 0x50000001 ∷ 0x50000002 ∷ 0x60000000 ∷ 0x60001000 ∷ 0x60002002 ∷ 0x70001000 ∷ 0x70001002 ∷ 0x80000001 ∷ 0x80001001 ∷ 0x80002004 ∷ 0xa0000006 ∷ [])
+      thirteen
       0
   b-order : order (stationOf square) ≡ 0 ∷ 1 ∷ 3 ∷ 2 ∷ []
   b-line-2 : routeAt (drawingOfList square) 2 .corners ≡ spotAt 1 3 ∷ []
@@ -102,23 +106,39 @@ pub record Table : Type 0 where
   d-line-9 : routeAt (drawingOfList stationD) 9 .corners ≡ spotAt 2 6 ∷ spotAt 3 6 ∷ []
   -- B, C and D pass every check: an output of their words takes them, and one of a word less does not
   b-drawn :
-      outcome square 16
+      outcome plain square 16
       ≡ drawn
       (0x40001003 ∷ 0x50000000 ∷ 0x50000001 ∷ 0x50000003 ∷ 0x50001002 ∷ 0x60000000 ∷ 0x60001000 ∷ 0x60002001 ∷ 0x70001003 ∷ 0x60003001 ∷ 0x70001000 ∷ 0x80000001 ∷ 0x80001002 ∷ 0x80002002 ∷ 0x80003003 ∷ 0xa0000008 ∷ [])
       0
-  b-short : outcome square 15 ≡ sentBack 11 16
+  b-short : outcome plain square 15 ≡ sentBack 11 16
   c-drawn :
-      outcome stationC 20
+      outcome plain stationC 20
       ≡ drawn
       (0x40002003 ∷ 0x50001000 ∷ 0x50000002 ∷ 0x50000003 ∷ 0x50000001 ∷ 0x60000001 ∷ 0x70001002 ∷ 0x60001001 ∷ 0x70000000 ∷ 0x60002000 ∷ 0x60003000 ∷ 0x60004002 ∷ 0x70002000 ∷ 0x70002003 ∷ 0x80000003 ∷ 0x80001002 ∷ 0x80002001 ∷ 0x80003001 ∷ 0x80004006 ∷ 0xa000000d ∷ [])
       0
-  c-short : outcome stationC 19 ≡ sentBack 11 20
+  c-short : outcome plain stationC 19 ≡ sentBack 11 20
   d-drawn :
-      outcome stationD 41
+      outcome plain stationD 41
       ≡ drawn
       (0x40006006 ∷ 0x50002001 ∷ 0x50005002 ∷ 0x50001003 ∷ 0x50002004 ∷ 0x50003005 ∷ 0x60000002 ∷ 0x70002000 ∷ 0x70005000 ∷ 0x60001001 ∷ 0x70001001 ∷ 0x60002000 ∷ 0x60003001 ∷ 0x70003001 ∷ 0x60004002 ∷ 0x70004002 ∷ 0x70004003 ∷ 0x60005001 ∷ 0x70005004 ∷ 0x60006002 ∷ 0x70006002 ∷ 0x70006005 ∷ 0x60007002 ∷ 0x70000003 ∷ 0x70000004 ∷ 0x60008001 ∷ 0x70001005 ∷ 0x60009002 ∷ 0x70002006 ∷ 0x70003006 ∷ 0x80000006 ∷ 0x80001003 ∷ 0x80002003 ∷ 0x80003005 ∷ 0x80004005 ∷ 0x80005005 ∷ 0x80006007 ∷ 0x80007004 ∷ 0x80008004 ∷ 0x80009004 ∷ 0xa000002e ∷ [])
       5
-  d-short : outcome stationD 40 ≡ sentBack 11 41
+  d-short : outcome plain stationD 40 ≡ sentBack 11 41
+  -- 2026-05: the triangle's runs, and the ready lengths that they take; the longest ready length; 'm + 1 words' more, 'and check 11 measures it'
+  a-lengths : cableLengths (drawingOfList triangle) ≡ 1 ∷ 1 ∷ 4 ∷ []
+  a-taken : map readyLength (cableLengths (drawingOfList triangle)) ≡ 2 ∷ 2 ∷ 4 ∷ []
+  price-2048 : cablePrice 0 2048 ≡ 72580
+  quoted-0 : outcome (quoted 0) triangle 17 ≡ drawn (thirteen ++ 970 ∷ 970 ∷ 1040 ∷ 2980 ∷ []) 0
+  quoted-1250 : outcome (quoted 1250) triangle 17 ≡ drawn (thirteen ++ 849 ∷ 849 ∷ 910 ∷ 2608 ∷ []) 0
+  quoted-5 : outcome (quoted 5) triangle 17 ≡ drawn (thirteen ++ 970 ∷ 970 ∷ 1039 ∷ 2979 ∷ []) 0
+  quoted-10000 : outcome (quoted 10000) triangle 17 ≡ drawn (thirteen ++ 0 ∷ 0 ∷ 0 ∷ 0 ∷ []) 0
+  quoted-short : outcome (quoted 0) triangle 16 ≡ sentBack 11 17
+  -- 'a discount above 10,000, tested before the list; its place is the discount'
+  refusal-12 : outcome (quoted 10001) triangle room ≡ sentBack 12 10001
+  refusal-12-first : outcome (quoted 10001) [] 0 ≡ sentBack 12 10001
+  discount-10000 : outcome (quoted 10000) [] 0 ≡ sentBack 1 0
+  -- D's lengths 6, 3, 3, 5, 5, 5, 7, 4, 4 and 4 take 6, 3, 3, 6, 6, 6, 8, 4, 4 and 4 steps; a discount of 10 percent leaves half a cent of 1,005 cents
+  d-quoted :
+      cablePrices 1000 (cableLengths (drawingOfList stationD)) ≡ 999 ∷ 905 ∷ 905 ∷ 999 ∷ 999 ∷ 999 ∷ 1062 ∷ 936 ∷ 936 ∷ 936 ∷ []
 
 pub table : Table
 unfolding hookup-computing
@@ -164,4 +184,16 @@ table = record {
   c-short = refl;
   d-drawn = refl;
   d-short = refl;
+  a-lengths = refl;
+  a-taken = refl;
+  price-2048 = refl;
+  quoted-0 = refl;
+  quoted-1250 = refl;
+  quoted-5 = refl;
+  quoted-10000 = refl;
+  quoted-short = refl;
+  refusal-12 = refl;
+  refusal-12-first = refl;
+  discount-10000 = refl;
+  d-quoted = refl;
 }

@@ -3,6 +3,7 @@ use Prim.Native.Nat.{ℕ}
 use mathlib.Core.Path.{_≡_}
 use mathlib.Core.List.{List, _++_}
 use lib.ListN.{length, take, drop}
+use Rattle.hookup.specs.declared.Options.{Options}
 use Rattle.hookup.specs.declared.Answer.{Answer}
 use Rattle.hookup.specs.declared.Answer.the-variants.{Sheet, Refused}
 use Rattle.hookup.specs.Outcome.{Outcome, drawn, sentBack, outcome}
@@ -30,13 +31,13 @@ outputOf (sentBack check place) before = before
 
 -- what is demanded of the words that a sheet leaves in the output: demand 3, of demand 2 that the parts stand in the smallest st-ordering, and that
 -- the crossings are those that the words show
-abbrev pub Demanded : Answer → List ℕ → List ℕ → Type 0
-Demanded (Sheet words crossings) list output =
-    Demand3 list (take words output) × Ordered list (take words output) × Crossed list (take words output) crossings
-Demanded (Refused check place) list output = Unit
+abbrev pub Demanded : Answer → Options → List ℕ → List ℕ → Type 0
+Demanded (Sheet words crossings) options list output =
+    Demand3 options list (take words output) × Ordered list (take words output) × Crossed list (take words output) crossings
+Demanded (Refused check place) options list output = Unit
 
--- a call on a list, with what stood in the output before and after
-pub record Drew (list before after : List ℕ) (answer : Answer) : Type 0 where
-  pub replies : replyOf answer ≡ reply (outcome list (length before))
-  pub output : after ≡ outputOf (outcome list (length before)) before
-  pub demands : Demanded answer list after
+-- a call on what the caller gives and a list, with what stood in the output before and after
+pub record Drew (options : Options) (list before after : List ℕ) (answer : Answer) : Type 0 where
+  pub replies : replyOf answer ≡ reply (outcome options list (length before))
+  pub output : after ≡ outputOf (outcome options list (length before)) before
+  pub demands : Demanded answer options list after

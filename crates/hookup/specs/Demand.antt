@@ -1,4 +1,4 @@
--- Demands 2 and 3, and requests 2026-01, 2026-02 and 2026-04, as claims about the words of a list and the words of its sheet. Assumes nothing.
+-- Demands 2 and 3, and requests 2026-01, 2026-02, 2026-04 and 2026-05, as claims about the words of a list and the words of its sheet. Assumes nothing.
 use Prim.Native.Nat.{ℕ, _+_, _<_}
 use mathlib.Core.Path.{_≡_}
 use mathlib.Core.Logic.{_⊎_}
@@ -7,19 +7,22 @@ use lib.ListN.{length, getD}
 use lib.Dec.{eqb}
 use Rattle.lists.specs.Select.{oneIf}
 use Rattle.words.specs.Words.{secondOf}
+use Rattle.prices.specs.declared.Discount.{Discount}
+use Rattle.prices.specs.Quoted.{Quoted}
 use Rattle.station.specs.Station.{Station, stationOf, degree, noCable}
 use Rattle.order.specs.StOrder.{Smallest}
 use Rattle.drawing.specs.Drawing.{Drawing, routeAt, Meets, crossings}
-use Rattle.drawing.specs.Sheet.{sheetWords}
-use Rattle.drawing.specs.Reading.{partsByRow, lengthsIn}
+use Rattle.drawing.specs.Sheet.{quotedWords}
+use Rattle.drawing.specs.Reading.{partsByRow, lengthsIn, quoteIn}
 use Rattle.drawing.specs.Sizes.{Sizes}
 use Rattle.drawing.specs.Measured.{Measured}
+use Rattle.hookup.specs.declared.Options.{Options}
 use Rattle.hookup.specs.Reading.{drawingOf}
 
--- the words are exactly those of a drawing of this station
-pub record Form (st : Station) (d : Drawing) (sheet : List ℕ) : Type 0 where
-  -- head, part, cable, corner, length and total words with their kinds, line numbers, counts of corners and no spare bit, and no word more
-  pub words : sheet ≡ sheetWords d
+-- the words are exactly those of a drawing of this station, under this discount
+pub record Form (discount : Discount) (st : Station) (d : Drawing) (sheet : List ℕ) : Type 0 where
+  -- head, part, cable, corner, length, total and price words with their kinds, line numbers, counts of corners and no spare bit, and no word more
+  pub words : sheet ≡ quotedWords discount d
   pub parts : length (d .parts) ≡ st .parts
   pub cables : length (d .routes) ≡ length (st .cables)
   -- 'A cable joins the two parts that its list word names.'
@@ -28,15 +31,20 @@ pub record Form (st : Station) (d : Drawing) (sheet : List ℕ) : Type 0 where
       → ((routeAt d i .first ≡ getD (st .cables) i noCable .one) × (routeAt d i .last ≡ getD (st .cables) i noCable .other))
       ⊎ ((routeAt d i .first ≡ getD (st .cables) i noCable .other) × (routeAt d i .last ≡ getD (st .cables) i noCable .one))
 
--- demand 3, of a list's words and a sheet's words
-pub record Demand3 (list sheet : List ℕ) : Type 0 where
-  pub form : Form (stationOf list) (drawingOf list sheet) sheet
+-- demand 3, of what the caller gave, a list's words and a sheet's words
+pub record Demand3 (options : Options) (list sheet : List ℕ) : Type 0 where
+  pub form : Form (options .discount) (stationOf list) (drawingOf list sheet) sheet
   pub meetings : Meets (drawingOf list sheet)
   pub sizes : Sizes (stationOf list .parts) (length (stationOf list .cables)) (drawingOf list sheet) sheet
   -- 2026-01: the words 'after the last cable's corners' are the lengths of the lines that the sheet shows, and their total
   pub lengths :
       Measured (stationOf list .parts) (length (stationOf list .cables)) (drawingOf list sheet)
       (lengthsIn (stationOf list .parts) (length (stationOf list .cables)) sheet)
+  -- 2026-05: the words 'after the run lengths' are the prices of these lengths, and their total
+  pub quote :
+      Quoted (options .discount) (length (stationOf list .cables))
+      (lengthsIn (stationOf list .parts) (length (stationOf list .cables)) sheet)
+      (quoteIn (stationOf list .parts) (length (stationOf list .cables)) sheet)
 
 -- 'Let d be 1 if s has four cables and 0 otherwise'
 unfoldable pub rowsBelow : Station → ℕ

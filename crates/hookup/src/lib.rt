@@ -3,13 +3,41 @@ use layout::lay_out;
 use lists::Found;
 use order::rank_cables;
 use order::rank_parts;
+use prices::Discount;
 use station::Verdict;
 use writer::crossings::count_crossings;
-use writer::sheet::count_words;
-use writer::sheet::put_sheet;
+use writer::quote::count_quoted;
+use writer::quote::put_quoted;
+ghost use mathlib.Core.Path.{_≡_};
 ghost use Rattle.station.specs.Checks.{Clear};
-ghost use Rattle.order.specs.Checks.{allChecks};
+ghost use Rattle.hookup.specs.Options as given;
+ghost use Rattle.hookup.specs.Checks.{callChecks};
 ghost use Rattle.hookup.specs.Answer.{Drew};
+
+// What the caller may give beside the list.
+pub struct Options {
+    pub discount: Discount,
+}
+
+impl Options {
+    // Nothing: the sheet ends with the lengths.
+    pub fn plain() -> Options
+        ensures { λ r. ⌜ r ≡ given.plain ⌝ }
+    {
+        Options {
+            discount: Discount::NotGiven,
+        }
+    }
+
+    // A customer's discount, in hundredths of a percent: the sheet ends with what the cables cost.
+    pub fn quoted(discount: u32) -> Options
+        ensures { λ r. ⌜ r ≡ given.quoted discount ⌝ }
+    {
+        Options {
+            discount: Discount::Given(discount),
+        }
+    }
+}
 
 // 'A successful call returns the words written and the crossings'; a refusal 'returns its number and one place, and writes no word'.
 pub enum Answer {
@@ -17,14 +45,15 @@ pub enum Answer {
     Refused { check: u8, place: usize },
 }
 
-// A list that passed checks 1 to 10 is ranked, laid out and measured; an output too short for it is refused (11) before a word is written.
-fn draw_station(list: &[u32], sheet: &mut [u32]) -> Answer
-    requires { ⌜ Clear allChecks (now list) ⌝ }
-    ensures { λ r. ⌜ Drew (now (list .entry)) (now (sheet .entry)) (now (sheet .exit)) r ⌝ }
+// A list that passed checks 1 to 10, under options that passed 12, is ranked, laid out and measured; an output too short for it is refused (11) before a word is written.
+fn draw_station(list: &[u32], sheet: &mut [u32], options: Options) -> Answer
+    requires { ⌜ Clear (callChecks options) (now list) ⌝ }
+    ensures { λ r. ⌜ Drew options (now (list .entry)) (now (sheet .entry)) (now (sheet .exit)) r ⌝ }
 {
     let ranking = rank_parts(list);
     let layout = lay_out(rank_cables(list, ranking));
-    let words = count_words(layout);
+    let discount = options.discount;
+    let words = count_quoted(layout, discount);
     if sheet.len() < words {
         return Answer::Refused {
             check: 11,
@@ -32,15 +61,19 @@ fn draw_station(list: &[u32], sheet: &mut [u32]) -> Answer
         };
     }
     Answer::Sheet {
-        words: put_sheet(sheet, ranking, layout),
+        words: put_quoted(sheet, ranking, layout, discount),
         crossings: count_crossings(layout),
     }
 }
 
-// The sheet of a list, written to the front of the output, or the first check that applies.
-pub fn draw(list: &[u32], sheet: &mut [u32]) -> Answer
-    ensures { λ r. ⌜ Drew (now (list .entry)) (now (sheet .entry)) (now (sheet .exit)) r ⌝ }
+// The sheet of a list, written to the front of the output, or the first check that applies: what the caller gives is tested before the list.
+pub fn draw(list: &[u32], sheet: &mut [u32], options: Options) -> Answer
+    ensures { λ r. ⌜ Drew options (now (list .entry)) (now (sheet .entry)) (now (sheet .exit)) r ⌝ }
 {
+    let discount = options.discount;
+    if let Found::At(place) = prices::check12(discount) {
+        return Answer::Refused { check: 12, place };
+    }
     if let Verdict::Refused { check, place } = station::check_list(list) {
         return Answer::Refused { check, place };
     }
@@ -50,5 +83,5 @@ pub fn draw(list: &[u32], sheet: &mut [u32]) -> Answer
     if let Found::At(place) = order::check10(list) {
         return Answer::Refused { check: 10, place };
     }
-    draw_station(list, sheet)
+    draw_station(list, sheet, options)
 }

@@ -7,7 +7,7 @@ use mathlib.Core.Logic.{_⊎_, inl, inr}
 use lib.ListN.{length, getD, set, length-append, length-set}
 use lib.Seq.{sets, length-sets, getD-set-same, getD-set-other}
 use Rattle.lists.specs.Stores.{Stored}
-use Rattle.lists.proofs.Stores.{sets-append}
+use Rattle.lists.proofs.Stores.{sets-append, stored-as}
 
 -- once `rest` is stored in `row` from `at` on, all is stored in `first` from `start` on
 pub record Storing {A : Type 0} (first : List A) (start : ℕ) (all row : List A) (at : ℕ) (rest : List A) : Type 0 where
@@ -44,6 +44,17 @@ module _ {A : Type 0} where
   pub storing-room :
       {first all row rest : List A} {start at : ℕ} → start + length all ≤ length first → Storing first start all row at rest → at + length rest ≤ length row
   storing-room h I = omega (arith, I .place, storing-kept I)
+
+  -- one element more: there is a place for it, and where it is the last, all is stored
+  pub storing-place :
+      {first all row rest : List A} {start at : ℕ} {x : A} {left : List A} → start + length all ≤ length first → rest ≡ x ∷ left
+      → Storing first start all row at rest → at < length row
+  storing-place h e I = omega (arith, storing-room h I, ap length e)
+
+  pub storing-last :
+      {first all row row′ rest : List A} {start at at′ : ℕ} {x y : A} → rest ≡ x ∷ [] → y ≡ x → Stored row at (y ∷ []) row′ at′
+      → Storing first start all row at rest → Stored first start all row′ at′
+  storing-last e f S I = storing-end refl (storing-next [] e (stored-as (ap (λ (z : A). z ∷ []) f) S) I)
 
 -- What stands in a row once a list is stored
 

@@ -14,9 +14,10 @@ use Rattle.station.specs.Station.{stationOf}
 use Rattle.station.specs.declared.Verdict.{Verdict}
 use Rattle.station.specs.declared.Verdict.the-variants.{Passed, Refused}
 use Rattle.station.specs.Checks.{firstRefusal}
-use Rattle.order.specs.Checks.{allChecks}
 use Rattle.drawing.specs.Drawing.{Drawing, crossings}
-use Rattle.drawing.specs.Sheet.{sheetWords}
+use Rattle.drawing.specs.Sheet.{quotedWords}
+use Rattle.hookup.specs.declared.Options.{Options}
+use Rattle.hookup.specs.Checks.{callChecks}
 use Rattle.hookup.specs.Drawing.{drawing}
 use Rattle.hookup.specs.Outcome.{Outcome, drawn, sentBack, fitted, orDrawn, outcome}
 use Rattle.text.specs.Lines.{hexLines, refusedLine}
@@ -29,21 +30,24 @@ abbrev pub Within : ℕ → Outcome → Type 0
 Within room (drawn words x) = length words ≤ room
 Within room (sentBack check place) = Unit
 
-fitted-within : (d : Drawing) (room : ℕ) → Within room (fitted d room)
+fitted-within : (options : Options) (d : Drawing) (room : ℕ) → Within room (fitted options d room)
 unfolding fitted
-fitted-within d room = go (ltb room (length (sheetWords d))) refl
+fitted-within options d room = go (ltb room (length words)) refl
   where
-    go : (b : Bool) → ltb room (length (sheetWords d)) ≡ b → Within room (cond b (sentBack 11 (length (sheetWords d))) (drawn (sheetWords d) (crossings d)))
+    words : List ℕ
+    words = quotedWords (options .discount) d
+
+    go : (b : Bool) → ltb room (length words) ≡ b → Within room (cond b (sentBack 11 (length words)) (drawn words (crossings d)))
     go true t = tt
-    go false t = ltb-false room (length (sheetWords d)) t
+    go false t = ltb-false room (length words) t
 
 -- check 11: 'output shorter than the sheet'
-pub outcome-within : (list : List ℕ) (room : ℕ) → Within room (outcome list room)
+pub outcome-within : (options : Options) (list : List ℕ) (room : ℕ) → Within room (outcome options list room)
 unfolding outcome orDrawn
-outcome-within list room = go (firstRefusal allChecks list)
+outcome-within options list room = go (firstRefusal (callChecks options) list)
   where
-    go : (v : Verdict) → Within room (orDrawn v (fitted (drawing (stationOf list)) room))
-    go Passed = fitted-within (drawing (stationOf list)) room
+    go : (v : Verdict) → Within room (orDrawn v (fitted options (drawing (stationOf list)) room))
+    go Passed = fitted-within options (drawing (stationOf list)) room
     go (Refused check place) = tt
 
 -- nine bytes a word are room enough where there are six words

@@ -11,6 +11,7 @@ use borrow.Author.Tests.{ltb-false, lt-ltb, le-ltb, eq-eqb, ne-eqb}
 use Rattle.lists.specs.Stores.{Stored}
 use Rattle.lists.proofs.Stores.{stored-front}
 use Rattle.lists.proofs.Select.{length-tabulate}
+use Rattle.hookup.specs.Options.{plain}
 use Rattle.hookup.specs.Outcome.{outcome}
 use Rattle.text.specs.Ascii.{ascii}
 use Rattle.text.specs.Bytes.{wordsIn}
@@ -53,10 +54,10 @@ module _ (bytes : List ℕ) where
   unfolding printed
   length-printed words h = go (loaded bytes)
     where
-      go : (l : Loaded) → length (fileText l (answerText (outcome (wordsIn bytes) words))) ≤ 9 * words
+      go : (l : Loaded) → length (fileText l (answerText (outcome plain (wordsIn bytes) words))) ≤ 9 * words
       go TooLarge = omega arith
       go Broken = omega arith
-      go (Words n) = length-answerText words (outcome (wordsIn bytes) words) h (outcome-within (wordsIn bytes) words)
+      go (Words n) = length-answerText words (outcome plain (wordsIn bytes) words) h (outcome-within plain (wordsIn bytes) words)
 
   module _ (words : ℕ) {out last : List ℕ} {r : ℕ} where
     pub large-stored : loaded bytes ≡ TooLarge → Stored out 0 (ascii "file too large\n") last r → Stored out 0 (printed bytes words) last r
@@ -68,7 +69,7 @@ module _ (bytes : List ℕ) where
     broken-stored e S = rw e S
 
     pub words-stored : {n : ℕ} (l : Loaded) (row : List ℕ) {now : List ℕ} → l ≡ loaded bytes → l ≡ Words n → now ≡ loadedRow l bytes row
-        → Stored out 0 (answerText (outcome (take n now) words)) last r → Stored out 0 (printed bytes words) last r
+        → Stored out 0 (answerText (outcome plain (take n now) words)) last r → Stored out 0 (printed bytes words) last r
     unfolding printed
     words-stored {n} l row {now} k e f S =
         let g : now ≡ wordsIn bytes ++ drop n row = f ∙ ap (λ (x : Loaded). loadedRow x bytes row) e in

@@ -5,6 +5,7 @@ use mathlib.Core.List.{List, _++_}
 use lib.ListN.{length, drop}
 use lib.Dec.{ltb, eqb}
 use Rattle.words.specs.Limits.{mostWords}
+use Rattle.hookup.specs.Options.{plain}
 use Rattle.hookup.specs.Outcome.{Outcome, drawn, sentBack, outcome}
 use Rattle.text.specs.Ascii.{ascii}
 use Rattle.text.specs.Bytes.{wordsIn}
@@ -41,6 +42,6 @@ fileText (Words n) text = text
 abbrev pub room : ℕ
 room = mostWords
 
--- what is printed of a file's bytes, where there is room for so many words of a sheet
+-- what is printed of a file's bytes, where there is room for so many words of a sheet; 2026-05: a discount, 'The sheet program gives none.'
 unfoldable pub printed : List ℕ → ℕ → List ℕ
-printed bytes words = fileText (loaded bytes) (answerText (outcome (wordsIn bytes) words))
+printed bytes words = fileText (loaded bytes) (answerText (outcome plain (wordsIn bytes) words))

@@ -1,5 +1,6 @@
 // The sheet program from input bytes to output bytes.
 use hookup::Answer;
+use hookup::Options;
 use hookup::draw;
 use text::bytes::read_words;
 use text::lines::put_hex_lines;
@@ -11,6 +12,7 @@ ghost use mathlib.Core.List.{_++_};
 ghost use Prim.Native.Nat.{_+_, _*_, _/_, _≤_};
 ghost use lib.ListN.{length, take, drop};
 ghost use Rattle.lists.specs.Stores.{Stored};
+ghost use Rattle.hookup.specs.Options.{plain};
 ghost use Rattle.hookup.specs.Outcome.{outcome};
 ghost use Rattle.printing.specs.Printed.{mostBytes, room, loaded, loadedRow, answerText, printed};
 
@@ -42,13 +44,13 @@ pub fn load(bytes: &[u8], words: &mut [u32]) -> Loaded
     Loaded::Words(read_words(bytes, words))
 }
 
-// The text for a list: its sheet or its refusal.
+// The text for a list: its sheet or its refusal. 2026-05: 'The sheet program gives none', no discount.
 fn print_list(list: &[u32], out: &mut [u8]) -> usize
     requires { ⌜ 9 * room ≤ length (now out) ⌝ }
-    ensures { λ r. ⌜ Stored (now (out .entry)) 0 (answerText (outcome (now (list .entry)) room)) (now (out .exit)) r ⌝ }
+    ensures { λ r. ⌜ Stored (now (out .entry)) 0 (answerText (outcome plain (now (list .entry)) room)) (now (out .exit)) r ⌝ }
 {
     let mut sheet = [0u32; ROOM];
-    match draw(list, &mut sheet) {
+    match draw(list, &mut sheet, Options::plain()) {
         Answer::Sheet {
             words,
             crossings: _,

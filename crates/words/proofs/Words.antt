@@ -2,7 +2,7 @@
 use Prim.Native.Nat.{ℕ, _<_, _^_}
 use mathlib.Core.Path.{_≡_}
 use native.Mathlib.Omega.{arith}
-use Rattle.words.specs.Words.{kindOf, spareOf, firstOf, secondOf, fields, listHead, listHeadWord, partsOf, cablesOf, lineFields, lineOf, totalLength, totalLengthWord, totalOf}
+use Rattle.words.specs.Words.{kindOf, spareOf, firstOf, secondOf, fields, listHead, listHeadWord, partsOf, cablesOf, lineFields, lineOf, wideField, wideOf}
 
 -- a word with two 12-bit fields: kinds 2 to 5 and 7
 pub record Fields (kind a b w : ℕ) : Type 0 where
@@ -35,11 +35,11 @@ pub record LineFields (kind line b w : ℕ) : Type 0 where
 pub lineFields-apart : (kind line b : ℕ) → kind < 16 → line < 65536 → b < 4096 → LineFields kind line b (lineFields kind line b)
 lineFields-apart kind line b hk hl hb = omega arith
 
--- kind 10
-pub record TotalLength (steps w : ℕ) : Type 0 where
-  pub kind-is : kindOf w ≡ totalLength
-  pub steps-is : totalOf w ≡ steps
+-- a word with one field: kind 10, whose field is a total, and kind 0, whose field are cents
+pub record WideField (kind a w : ℕ) : Type 0 where
+  pub kind-is : kindOf w ≡ kind
+  pub wide-is : wideOf w ≡ a
   pub fits : w < 2 ^ 32
 
-pub totalLength-apart : (steps : ℕ) → steps < 2 ^ 28 → TotalLength steps (totalLengthWord steps)
-totalLength-apart steps h = omega arith
+pub wideField-apart : (kind a : ℕ) → kind < 16 → a < 2 ^ 28 → WideField kind a (wideField kind a)
+wideField-apart kind a hk ha = omega arith

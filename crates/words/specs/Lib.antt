@@ -1,3 +1,3 @@
--- Document 01, 'The words', with request 2026-01's two kinds, and its limits. Assumes nothing.
+-- Document 01, 'The words', with the kinds of requests 2026-01 and 2026-05, and its limits. Assumes nothing.
 pub mod Words
 pub mod Limits

@@ -20,6 +20,10 @@ mostCables = mostDegree * mostParts / 2
 abbrev pub mostWords : ℕ
 mostWords = 4 * mostCables - mostParts + 4 + 1 + 1
 
+-- and with 'm + 1 words' of prices (2026-05)
+abbrev pub mostQuotedWords : ℕ
+mostQuotedWords = mostWords + mostCables + 1
+
 -- room for the neighbours of each part
 abbrev pub neighbourPlaces : ℕ
 neighbourPlaces = mostDegree * mostParts

@@ -1,4 +1,4 @@
--- Document 01, 'The words', and request 2026-01's two kinds: each kind of word made and taken apart, over ℕ. Assumes nothing.
+-- Document 01, 'The words', the two kinds of request 2026-01 and the one of 2026-05: each kind of word made and taken apart, over ℕ. Assumes nothing.
 use Prim.Native.Nat.{ℕ, _+_, _*_, _/_, _%_}
 
 -- 'The top four bits (31 to 28) are the kind.'
@@ -44,6 +44,10 @@ cableLength = 8
 
 abbrev pub totalLength : ℕ
 totalLength = 10
+
+-- 2026-05: 'words of kind 0', prices
+abbrev pub price : ℕ
+price = 0
 
 -- a word of a kind with two 12-bit fields
 abbrev pub fields : ℕ → ℕ → ℕ → ℕ
@@ -94,9 +98,23 @@ cornerWord x y = fields corner x y
 abbrev pub cableLengthWord : ℕ → ℕ → ℕ
 cableLengthWord line steps = lineFields cableLength line steps
 
+-- a word of a kind with one field in bits 27 to 0
+abbrev pub wideField : ℕ → ℕ → ℕ
+wideField kind a = kind * 0x1000_0000 + a
+
+abbrev pub wideOf : ℕ → ℕ
+wideOf w = w % 0x1000_0000
+
 -- 2026-01: 'the total in bits 27 to 0'
 abbrev pub totalLengthWord : ℕ → ℕ
-totalLengthWord steps = totalLength * 0x1000_0000 + steps
+totalLengthWord steps = wideField totalLength steps
 
 abbrev pub totalOf : ℕ → ℕ
-totalOf w = w % 0x1000_0000
+totalOf w = wideOf w
+
+-- 2026-05: 'cents in bits 27 to 0'
+abbrev pub priceWord : ℕ → ℕ
+priceWord cents = wideField price cents
+
+abbrev pub centsOf : ℕ → ℕ
+centsOf w = wideOf w

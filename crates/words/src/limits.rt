@@ -14,6 +14,9 @@ pub const MOST_CABLES: usize = MOST_DEGREE * MOST_PARTS / 2;
 // 'The sheet has .. 3m - n + 3 + d + e words', where d and e are at most 1 and m at most 2n, and m + 1 lengths (2026-01).
 pub const MOST_WORDS: usize = 4 * MOST_CABLES - MOST_PARTS + 4 + 1 + 1;
 
+// And with 'm + 1 words' of prices (2026-05).
+pub const MOST_QUOTED_WORDS: usize = MOST_WORDS + MOST_CABLES + 1;
+
 // Room for the neighbours of each part.
 pub const NEIGHBOUR_PLACES: usize = MOST_DEGREE * MOST_PARTS;
 

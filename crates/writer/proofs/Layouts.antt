@@ -1,4 +1,4 @@
--- What the values of a layout say of its drawing: its parts, its sizes, its courses with their lengths, and which of them cross. Assumes nothing.
+-- What the values of a layout say of its drawing: its parts, its sizes, its courses with their lengths and prices, and which of them cross. Assumes nothing.
 use Prim.Native.Nat.{ℕ, _+_, _-_, _*_, _<_, _≤_}
 use native.Mathlib.Omega.{arith}
 use mathlib.Core.Path.{_≡_, sym, ap, ap₂, subst, _∙_}
@@ -6,6 +6,9 @@ use mathlib.Core.List.{List}
 use lib.ListN.{length, getD}
 use lib.Seq.{getD-take}
 use Rattle.lists.proofs.Sums.{sum-le}
+use Rattle.prices.specs.Quote.{cablePrice}
+use Rattle.prices.specs.Values.{longest}
+use Rattle.prices.proofs.Quotes.{Covered}
 use Rattle.order.specs.declared.Ranking.{Ranking}
 use Rattle.order.specs.Graph.{StGraph, size, Ranked}
 use Rattle.order.specs.Arrays.{graphIn}
@@ -14,8 +17,9 @@ use Rattle.order.specs.Ranking.{namesIn, Inverse}
 use Rattle.order.proofs.LineRanks.{rankAt, rank-number}
 use Rattle.drawing.specs.Spots.{spotAt}
 use Rattle.drawing.specs.Drawing.{Route, spotOf, routeAt, pointsAt, Meets, crossPair}
-use Rattle.drawing.specs.Lengths.{lineLength}
+use Rattle.drawing.specs.Lengths.{lineLength, cableLengths}
 use Rattle.drawing.specs.Sheet.{routeWords, sheetWords}
+use Rattle.drawing.proofs.Lengths.{lengths-count, length-at}
 use Rattle.drawing.proofs.Renumbered.{Names, parts-renumbered, spot-renumbered}
 use Rattle.layout.specs.declared.Course as code-course
 use Rattle.layout.specs.declared.Layout.{Layout}
@@ -26,8 +30,8 @@ use Rattle.layout.specs.Over.{coursesCross}
 use Rattle.layout.specs.Courses.{CourseFits}
 use Rattle.layout.specs.Arrays.{courseIn, noCourse, IsLayout}
 use Rattle.layout.proofs.Lengths as of-graph
-use Rattle.layout.proofs.ExtraRows.{bottomRows-le}
-use Rattle.layout.proofs.Drawn.{parts-count, routes-count, spot-of, route-at, points-at, meets, pair-crosses, parts-le, words-count, column-fits, course-fits, fits}
+use Rattle.layout.proofs.ExtraRows.{bottomRows-le, topRows-le}
+use Rattle.layout.proofs.Drawn.{parts-count, routes-count, spot-of, route-at, points-at, meets, pair-crosses, length-most, parts-le, words-count, column-fits, course-fits, fits}
 use Rattle.writer.specs.Values.{layoutIn, numberedIn}
 use Rattle.writer.proofs.Sections.{lengthBefore}
 
@@ -63,6 +67,9 @@ module _ (l : Layout) (L : IsLayout l) where
 
   pub bottom-small : l .«bottom_rows» ≤ 1
   bottom-small = omega (arith, L .bottom, bottomRows-le G ranked)
+
+  pub top-small : l .«top_rows» ≤ 1
+  top-small = omega (arith, L .top, topRows-le G ranked)
 
   pub layout-meets : Meets (layoutIn l)
   layout-meets = meets G ranked
@@ -118,6 +125,26 @@ module _ (l : Layout) (L : IsLayout l) where
 
     pub lengths-small : (k : ℕ) → k ≤ l .graph .cables → lengthBefore (layoutIn l) k ≤ k * 4095
     lengths-small k h = sum-le _ k 4095 (λ i g. let f : i < l .graph .cables = omega arith in omega (arith, length-is i f, course-small i f .length))
+
+    -- Prices
+
+    -- every run is covered
+    pub run-covered : (i : ℕ) → i < l .graph .cables → lineLength (pointsOf (courseIn (courseAt l i))) ≤ longest
+    run-covered i h = omega (arith, length-is i h, length-most G ranked (L .fits .least) i (inside i h), L .fits .most)
+
+    pub run-count : length (cableLengths (layoutIn l)) ≡ l .graph .cables
+    run-count = lengths-count (layoutIn l) ∙ route-count
+
+    run-is : (i : ℕ) → i < l .graph .cables → lineLength (pointsOf (courseIn (courseAt l i))) ≡ getD (cableLengths (layoutIn l)) i 0
+    run-is i h = length-is i h ∙ sym (length-at (layoutIn l) i (omega (arith, route-count)))
+
+    pub runs-covered : Covered (cableLengths (layoutIn l))
+    runs-covered i h = let g : i < l .graph .cables = omega (arith, run-count) in omega (arith, run-is i g, run-covered i g)
+
+    pub price-is :
+        (discount i : ℕ) → i < l .graph .cables
+        → cablePrice discount (lineLength (pointsOf (courseIn (courseAt l i)))) ≡ cablePrice discount (getD (cableLengths (layoutIn l)) i 0)
+    price-is discount i h = ap (cablePrice discount) (run-is i h)
 
     -- Crossings
 

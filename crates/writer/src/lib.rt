@@ -1,4 +1,5 @@
-// The words and the crossings of a layout.
+// The words and the crossings of a layout, and what its cables cost.
 pub mod crossings;
 pub mod lengths;
+pub mod quote;
 pub mod sheet;

@@ -32,7 +32,7 @@ pub fn count_words(layout: Layout) -> usize
 }
 
 // A word, and the place behind it.
-fn put(sheet: &mut [u32], at: usize, w: Word) -> usize
+pub fn put(sheet: &mut [u32], at: usize, w: Word) -> usize
     requires { ⌜ at < length (now sheet) ⌝ }
     ensures { λ r. ⌜ Stored (now (sheet .entry)) at (w .0 ∷ []) (now (sheet .exit)) r ⌝ }
 {

@@ -15,6 +15,12 @@ abbrev μ-loop : tie.MeasureT-loop
 loop-holds : tie.Need-loop-holds Inv-loop μ-loop
 loop-holds c = search needs
 
+sub-if1 : tie.Need-sub-if1 Inv-loop μ-loop
+sub-if1 c = search needs
+
+returns : tie.Need-returns Inv-loop μ-loop
+returns c = search needs
+
 mul-k : tie.Need-mul-k Inv-loop μ-loop
 mul-k c = search needs
 
@@ -22,16 +28,37 @@ shared-slice-read-k : tie.Need-shared-slice-read-k Inv-loop μ-loop
 shared-slice-read-k c = search needs
 
 cast-k : tie.Need-cast-k Inv-loop μ-loop
-cast-k c = omega (arith, c .shared-slice-known2 .given (c .before .before .loop .at))
+cast-k c = omega (arith, c .shared-slice-known2 .given (c .before .before .before .loop .at))
+
+add-options-of : tie.Need-add-options-of Inv-loop μ-loop
+add-options-of c = search needs
+
+mul-options-of : tie.Need-mul-options-of Inv-loop μ-loop
+mul-options-of c = search needs
+
+shared-slice-read-options-of : tie.Need-shared-slice-read-options-of Inv-loop μ-loop
+shared-slice-read-options-of c = search needs
+
+add-options-of-2 : tie.Need-add-options-of-2 Inv-loop μ-loop
+add-options-of-2 c = search needs
+
+mul-options-of-2 : tie.Need-mul-options-of-2 Inv-loop μ-loop
+mul-options-of-2 c = search needs
+
+shared-slice-read-options-of-2 : tie.Need-shared-slice-read-options-of-2 Inv-loop μ-loop
+shared-slice-read-options-of-2 c = search needs
+
+options-of-requires : tie.Need-options-of-requires Inv-loop μ-loop
+options-of-requires c κs = search needs
 
 add-start : tie.Need-add-start Inv-loop μ-loop
 add-start c = search needs
 
-sub-if1 : tie.Need-sub-if1 Inv-loop μ-loop
-sub-if1 c = search needs
+sub-if2 : tie.Need-sub-if2 Inv-loop μ-loop
+sub-if2 c = search needs
 
-returns : tie.Need-returns Inv-loop μ-loop
-returns c = search needs
+returns-2 : tie.Need-returns-2 Inv-loop μ-loop
+returns-2 c = search needs
 
 add-end : tie.Need-add-end Inv-loop μ-loop
 add-end c = search needs
@@ -57,8 +84,8 @@ loop-less c = search needs
 loop-again : tie.Need-loop-again Inv-loop μ-loop
 loop-again c = search needs
 
-returns-2 : tie.Need-returns-2 Inv-loop μ-loop
-returns-2 c = search needs
+returns-3 : tie.Need-returns-3 Inv-loop μ-loop
+returns-3 c = search needs
 
 pub draw-all-spec : {M : Type 1} → statement M
 draw-all-spec =
@@ -67,12 +94,21 @@ draw-all-spec =
     Inv-loop
     μ-loop
     loop-holds
+    sub-if1
+    returns
     mul-k
     shared-slice-read-k
     cast-k
+    add-options-of
+    mul-options-of
+    shared-slice-read-options-of
+    add-options-of-2
+    mul-options-of-2
+    shared-slice-read-options-of-2
+    options-of-requires
     add-start
-    sub-if1
-    returns
+    sub-if2
+    returns-2
     add-end
     mul-draw-list
     sub-draw-list
@@ -81,4 +117,4 @@ draw-all-spec =
     draw-list-requires
     loop-less
     loop-again
-    returns-2)
+    returns-3)

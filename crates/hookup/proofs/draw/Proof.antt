@@ -1,22 +1,54 @@
--- The first of checks 1 to 10 that applies is the answer; a list that passes them is drawn. Assumes nothing.
+-- 12 or the first of checks 1 to 10 that applies is the answer; a list that passes them is drawn. Assumes nothing.
 use mathlib.Core.Path.{_≡_, sym, _∙_}
 use borrow.Author.Needs.{needs}
 use Rattle.lists.specs.declared.Found.the-variants.{Nothing}
+use Rattle.prices.specs.Discounts.{check12}
 use Rattle.station.specs.Station.{stationOf}
 use Rattle.station.specs.Checks.{Clear, listChecks}
 use Rattle.order.specs.Reach.{check9, check10}
-use Rattle.hookup.proofs.Answers.{refused-8, refused-9, refused-10, all-clear, drew-refused}
+use Rattle.hookup.proofs.CallChecks.{refused-8, refused-9, refused-10, all-clear, refused-12, list-decides}
+use Rattle.hookup.proofs.Answers.{drew-refused}
 use Rattle.hookup.proofs.draw.Statement.{statement}
 use Rattle.hookup.proofs.draw.Tie as tie
 
-pass-8 : (c : tie.After-enum-told) → Clear listChecks (c .before .before .before .before .before .args .list .now)
-pass-8 c = sym (c .before .before .check-list .ensures) ∙ c .enum-told .given .1
+-- what each check that finds nothing tells, from the first to the last; `start` leads back from the first
+abbrev start : tie.After-enum-told → tie.Start
+start c = c .before .before .before .before .before
 
-none-9 : (c : tie.After-enum-told2) → check9 (stationOf (c .before .before .before .before .before .before .before .before .args .list .now)) ≡ Nothing
-none-9 c = sym (c .before .before .check9 .ensures) ∙ c .enum-told2 .given .1
+abbrev eight : tie.After-enum-told2 → tie.After-enum-told
+eight c = c .before .before .before
 
-none-10 : (c : tie.After-enum-told3) → check10 (stationOf (c .before .before .before .before .before .before .before .before .before .before .before .args .list .now)) ≡ Nothing
-none-10 c = sym (c .before .before .check10 .ensures) ∙ c .enum-told3 .given .1
+abbrev nine : tie.After-enum-told3 → tie.After-enum-told2
+nine c = c .before .before .before
+
+abbrev ten : tie.After-enum-told4 → tie.After-enum-told3
+ten c = c .before .before .before
+
+none-12 : (c : tie.After-enum-told) → check12 (start c .args .options .discount) ≡ Nothing
+none-12 c = sym (c .before .before .check12 .ensures) ∙ c .enum-told .given .1
+
+pass-8 : (c : tie.After-enum-told2) → Clear listChecks (start (eight c) .args .list .now)
+pass-8 c = sym (c .before .before .check-list .ensures) ∙ c .enum-told2 .given .1
+
+none-9 : (c : tie.After-enum-told3) → check9 (stationOf (start (eight (nine c)) .args .list .now)) ≡ Nothing
+none-9 c = sym (c .before .before .check9 .ensures) ∙ c .enum-told3 .given .1
+
+none-10 : (c : tie.After-enum-told4) → check10 (stationOf (start (eight (nine (ten c))) .args .list .now)) ≡ Nothing
+none-10 c = sym (c .before .before .check10 .ensures) ∙ c .enum-told4 .given .1
+
+check12-requires : tie.Need-check12-requires
+check12-requires c κs = search needs
+
+enum-known-place : tie.Need-enum-known-place
+enum-known-place c = search needs
+
+returns : tie.Need-returns
+returns c =
+    let k = c .before .before .before in
+    drew-refused _ _ _ _ _ (refused-12 (k .before .before .before .args .options) _ _ (sym (k .check12 .ensures) ∙ c .before .place .given .1))
+
+enum-told : tie.Need-enum-told
+enum-told c = search needs
 
 check-list-requires : tie.Need-check-list-requires
 check-list-requires c κs = search needs
@@ -24,29 +56,17 @@ check-list-requires c κs = search needs
 enum-known-check : tie.Need-enum-known-check
 enum-known-check c = search needs
 
-returns : tie.Need-returns
-returns c =
-    drew-refused _ _ _ _ (refused-8 _ _ _ (sym (c .before .before .before .check-list .ensures) ∙ c .before .check .given .1))
-
-enum-told : tie.Need-enum-told
-enum-told c = search needs
-
-check9-requires : tie.Need-check9-requires
-check9-requires c κs = pass-8 c
-
-enum-known-place : tie.Need-enum-known-place
-enum-known-place c = search needs
-
 returns-2 : tie.Need-returns-2
 returns-2 c =
     let k = c .before .before .before in
-    drew-refused _ _ _ _ (refused-9 _ (pass-8 (k .before)) _ (sym (k .check9 .ensures) ∙ c .before .place .given .1))
+    let t = k .before in
+    drew-refused _ _ _ _ _ (list-decides (start t .args .options) _ (none-12 t) ∙ refused-8 _ _ _ (sym (k .check-list .ensures) ∙ c .before .check .given .1))
 
 enum-told-2 : tie.Need-enum-told-2
 enum-told-2 c = search needs
 
-check10-requires : tie.Need-check10-requires
-check10-requires c κs = pass-8 (c .before .before .before)
+check9-requires : tie.Need-check9-requires
+check9-requires c κs = pass-8 c
 
 enum-known-place-2 : tie.Need-enum-known-place-2
 enum-known-place-2 c = search needs
@@ -54,39 +74,62 @@ enum-known-place-2 c = search needs
 returns-3 : tie.Need-returns-3
 returns-3 c =
     let k = c .before .before .before in
-    drew-refused _ _ _ _
-    (refused-10 _ (pass-8 (k .before .before .before .before)) (none-9 (k .before)) _ (sym (k .check10 .ensures) ∙ c .before .place2 .given .1))
+    let t = eight (k .before) in
+    drew-refused _ _ _ _ _
+    (list-decides (start t .args .options) _ (none-12 t) ∙ refused-9 _ (pass-8 (k .before)) _ (sym (k .check9 .ensures) ∙ c .before .place2 .given .1))
 
 enum-told-3 : tie.Need-enum-told-3
 enum-told-3 c = search needs
 
+check10-requires : tie.Need-check10-requires
+check10-requires c κs = pass-8 (nine c)
+
+enum-known-place-3 : tie.Need-enum-known-place-3
+enum-known-place-3 c = search needs
+
+returns-4 : tie.Need-returns-4
+returns-4 c =
+    let k = c .before .before .before in
+    let t = eight (nine (k .before)) in
+    drew-refused _ _ _ _ _
+    (list-decides (start t .args .options) _ (none-12 t)
+    ∙ refused-10 _ (pass-8 (nine (k .before))) (none-9 (k .before)) _ (sym (k .check10 .ensures) ∙ c .before .place3 .given .1))
+
+enum-told-4 : tie.Need-enum-told-4
+enum-told-4 c = search needs
+
 draw-station-requires : tie.Need-draw-station-requires
 draw-station-requires c κs =
     let k = c .before in
-    all-clear _ (pass-8 (k .before .before .before .before .before .before)) (none-9 (k .before .before .before)) (none-10 k)
+    let t = eight (nine (ten k)) in
+    list-decides (start t .args .options) _ (none-12 t) ∙ all-clear _ (pass-8 (nine (ten k))) (none-9 (ten k)) (none-10 k)
 
 same-length : tie.Need-same-length
 same-length c = search needs
 
-returns-4 : tie.Need-returns-4
-returns-4 c = search needs
+returns-5 : tie.Need-returns-5
+returns-5 c = search needs
 
 pub draw-spec : {M : Type 1} → statement M
 draw-spec =
     tie.close
     (tie.spec
-    check-list-requires
-    enum-known-check
+    check12-requires
+    enum-known-place
     returns
     enum-told
-    check9-requires
-    enum-known-place
+    check-list-requires
+    enum-known-check
     returns-2
     enum-told-2
-    check10-requires
+    check9-requires
     enum-known-place-2
     returns-3
     enum-told-3
+    check10-requires
+    enum-known-place-3
+    returns-4
+    enum-told-4
     draw-station-requires
     same-length
-    returns-4)
+    returns-5)

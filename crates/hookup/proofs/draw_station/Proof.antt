@@ -1,44 +1,59 @@
 -- The stages' values in a row are the sheet of the list's station, or its words are too many. Assumes nothing.
 use native.Mathlib.Omega.{arith}
-use mathlib.Core.Path.{ap, _∙_}
+use mathlib.Core.Path.{_≡_, ap, _∙_}
 use borrow.Author.Needs.{needs}
+use Rattle.station.specs.Station.{stationOf}
+use Rattle.station.specs.Checks.{Clear}
 use Rattle.order.specs.Arrays.{graphIn}
+use Rattle.order.specs.Checks.{allChecks}
+use Rattle.order.specs.Ends.{graphOf}
+use Rattle.hookup.proofs.CallChecks.{list-clear, discount-clear}
 use Rattle.hookup.proofs.Stages.{graph-fits, words-are, crossings-counted, inverse, sheet-is}
 use Rattle.hookup.proofs.Answers.{drew-short, drew-sheet}
 use Rattle.hookup.proofs.draw_station.Statement.{statement}
 use Rattle.hookup.proofs.draw_station.Tie as tie
 
+-- the list passed checks 1 to 10
+clear : (s : tie.Start) → Clear allChecks (s .args .list .now)
+clear s = list-clear (s .args .options) (s .args .list .now) (s .pre)
+
+-- from behind the layout back to the start
+abbrev start : tie.After-lay-out → tie.Start
+start l = l .before .before .before .before .before
+
+-- the layout is of the list's cables in ranks
+graph-is : (l : tie.After-lay-out) → graphIn (l .lay-out .result .graph) ≡ graphOf (stationOf (start l .args .list .now))
+graph-is l = ap graphIn (l .lay-out .ensures .0) ∙ l .before .rank-cables .ensures .0
+
 rank-parts-requires : tie.Need-rank-parts-requires
-rank-parts-requires c κs = search needs
+rank-parts-requires c κs = clear (c .before .before)
 
 rank-cables-requires : tie.Need-rank-cables-requires
-rank-cables-requires c κs = search needs
+rank-cables-requires c κs = (clear (c .before .before .before), c .rank-parts .ensures)
 
 lay-out-requires : tie.Need-lay-out-requires
-lay-out-requires c κs = graph-fits _ (c .before .before .before .before .pre) (c .rank-cables .ensures .0) (c .rank-cables .ensures .1)
+lay-out-requires c κs = graph-fits _ (clear (c .before .before .before .before)) (c .rank-cables .ensures .0) (c .rank-cables .ensures .1)
 
-count-words-requires : tie.Need-count-words-requires
-count-words-requires c κs = search needs
+count-quoted-requires : tie.Need-count-quoted-requires
+count-quoted-requires c κs = search needs
 
 returns : tie.Need-returns
 returns c =
     let k = c .before in
     let l = k .before in
-    let g = l .before in
-    let s = g .before .before .before .before in
-    drew-short _ _ _ (s .pre) (c .if1 .taken)
-    (k .count-words .ensures ∙ words-are _ (s .pre) (l .lay-out .result .graph) (ap graphIn (l .lay-out .ensures .0) ∙ g .rank-cables .ensures .0))
+    let s = start l in
+    drew-short (s .args .options) _ _ _ (s .pre) (c .if1 .taken)
+    (k .count-quoted .ensures ∙ words-are _ (clear s) (l .lay-out .result .graph) (graph-is l) (s .args .options .discount))
 
-put-sheet-requires : tie.Need-put-sheet-requires
-put-sheet-requires c κs =
+put-quoted-requires : tie.Need-put-quoted-requires
+put-quoted-requires c κs =
     let k = c .before .before in
     let l = k .before in
-    let g = l .before in
-    let s = g .before .before .before .before in (
+    let s = start l in (
       l .lay-out .ensures .1,
       (
-        inverse _ (s .pre) (l .lay-out .result .graph) (ap graphIn (l .lay-out .ensures .0) ∙ g .rank-cables .ensures .0) (g .before .rank-parts .ensures),
-        omega (arith, k .count-words .ensures, c .before .if1 .left),
+        inverse _ (clear s) (l .lay-out .result .graph) (graph-is l) (l .before .before .rank-parts .ensures),
+        (discount-clear (s .args .options) (s .args .list .now) (s .pre), omega (arith, k .count-quoted .ensures, c .before .if1 .left)),
       ),
     )
 
@@ -53,12 +68,12 @@ returns-2 c =
     let p = c .before .before .before in
     let k = p .before .before .before in
     let l = k .before in
-    let g = l .before in
-    let s = g .before .before .before .before in
-    let e = ap graphIn (l .lay-out .ensures .0) ∙ g .rank-cables .ensures .0 in
-    drew-sheet _ _ _ _ _ _ (s .pre) (sheet-is _ (s .pre) (l .lay-out .result .graph) e (g .before .rank-parts .ensures))
-    (omega (arith, k .count-words .ensures, words-are (s .args .list .now) (s .pre) (l .lay-out .result .graph) e, p .before .before .if1 .left)) (p .put-sheet .ensures)
-    (c .count-crossings .ensures ∙ crossings-counted _ (s .pre) (l .lay-out .result .graph) e)
+    let s = start l in
+    let g = l .lay-out .result .graph in
+    let discount = s .args .options .discount in
+    drew-sheet (s .args .options) _ _ _ _ _ _ (s .pre) (sheet-is _ (clear s) g (graph-is l) (l .before .before .rank-parts .ensures) discount)
+    (omega (arith, k .count-quoted .ensures, words-are (s .args .list .now) (clear s) g (graph-is l) discount, p .before .before .if1 .left)) (p .put-quoted .ensures)
+    (c .count-crossings .ensures ∙ crossings-counted _ (clear s) g (graph-is l))
 
 pub draw-station-spec : {M : Type 1} → statement M
 draw-station-spec =
@@ -67,9 +82,9 @@ draw-station-spec =
     rank-parts-requires
     rank-cables-requires
     lay-out-requires
-    count-words-requires
+    count-quoted-requires
     returns
-    put-sheet-requires
+    put-quoted-requires
     count-crossings-requires
     same-length
     returns-2)

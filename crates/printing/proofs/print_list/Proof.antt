@@ -1,17 +1,34 @@
 -- `printing::print_list` meets its contract. Assumes nothing.
-use mathlib.Core.Path.{sym, ap, _∙_}
+use Prim.Native.Nat.{ℕ}
+use mathlib.Core.Path.{_≡_, sym, ap, _∙_}
+use mathlib.Core.List.{List}
 use native.Mathlib.Omega.{arith}
 use borrow.Author.Needs.{needs}
 use lib.Seq.{length-take-le}
-use Rattle.hookup.specs.Outcome.{outcome}
-use Rattle.hookup.specs.Answer.{replyOf}
+use Rattle.hookup.specs.declared.Options.{Options}
+use Rattle.hookup.specs.Options.{plain}
+use Rattle.hookup.specs.Outcome.{Outcome, outcome}
+use Rattle.hookup.specs.Answer.{replyOf, reply, outputOf}
 use Rattle.printing.specs.Printed.{room}
 use Rattle.printing.proofs.AnswerLaws.{sheet-stored, refused-stored, sheet-within, outcome-within}
 use Rattle.printing.proofs.print_list.Statement.{statement}
 use Rattle.printing.proofs.print_list.Tie as tie
 
+-- the list, what is due for it, and what the call leaves, where nothing is given
+abbrev listOf : tie.After-draw → List ℕ
+listOf call = call .before .before .before .before .before .args .list .now
+
+abbrev given : tie.After-draw → Outcome
+given call = outcome plain (listOf call) room
+
+replies : (call : tie.After-draw) → replyOf (call .draw .result) ≡ reply (given call)
+replies call = call .draw .ensures .replies ∙ ap (λ (o : Options). reply (outcome o (listOf call) room)) (call .before .plain .ensures)
+
 slice-aggregate-draw : tie.Need-slice-aggregate-draw
 slice-aggregate-draw c = search needs
+
+plain-requires : tie.Need-plain-requires
+plain-requires c κs = search needs
 
 draw-requires : tie.Need-draw-requires
 draw-requires c κs = search needs
@@ -23,8 +40,7 @@ array-share-prefix-sheet : tie.Need-array-share-prefix-sheet
 array-share-prefix-sheet c =
     let arm = c .before .before in
     let call = arm .before .before .before in
-    let list = call .before .before .before .before .args .list .now in
-    omega (arith, sheet-within room (outcome list room) (outcome-within list room) (sym (call .draw .ensures .replies) ∙ ap replyOf (arm .words .given .1)), call .draw .kept .1 .0)
+    omega (arith, sheet-within room (given call) (outcome-within plain (listOf call) room) (sym (replies call) ∙ ap replyOf (arm .words .given .1)), call .draw .kept .1 .0)
 
 slice-aggregate-put-hex-lines : tie.Need-slice-aggregate-put-hex-lines
 slice-aggregate-put-hex-lines c =
@@ -35,8 +51,7 @@ put-hex-lines-requires : tie.Need-put-hex-lines-requires
 put-hex-lines-requires c κs =
     let arm = c .before .before .before in
     let call = arm .before .before .before in
-    let list = call .before .before .before .before .args .list .now in
-    omega (arith, slice-aggregate-put-hex-lines c, sheet-within room (outcome list room) (outcome-within list room) (sym (call .draw .ensures .replies) ∙ ap replyOf (arm .words .given .1)))
+    omega (arith, slice-aggregate-put-hex-lines c, sheet-within room (given call) (outcome-within plain (listOf call) room) (sym (replies call) ∙ ap replyOf (arm .words .given .1)))
 
 enum-known-check : tie.Need-enum-known-check
 enum-known-check c = search needs
@@ -54,8 +69,7 @@ returns : tie.Need-returns
 returns c =
     let arm = c .before .before .before .before .before .before in
     let call = arm .before .before .before in
-    let list = call .before .before .before .before .args .list .now in
-    sheet-stored (outcome list room) (arm .words .given .0 .0) _ _ (sym (call .draw .ensures .replies) ∙ ap replyOf (arm .words .given .1)) (call .draw .ensures .output) (c .before .before .put-hex-lines .ensures)
+    sheet-stored (given call) (arm .words .given .0 .0) _ _ (sym (replies call) ∙ ap replyOf (arm .words .given .1)) (call .draw .ensures .output ∙ ap (λ (o : Options). outputOf (outcome o (listOf call) room) _) (call .before .plain .ensures)) (c .before .before .put-hex-lines .ensures)
 
 same-length-2 : tie.Need-same-length-2
 same-length-2 c = search needs
@@ -64,14 +78,14 @@ returns-2 : tie.Need-returns-2
 returns-2 c =
     let arm = c .before .before .before .before .before in
     let call = arm .before .before .before in
-    let list = call .before .before .before .before .args .list .now in
-    refused-stored (outcome list room) (sym (call .draw .ensures .replies) ∙ ap replyOf (arm .check .given .1)) (c .before .before .put-refused .ensures)
+    refused-stored (given call) (sym (replies call) ∙ ap replyOf (arm .check .given .1)) (c .before .before .put-refused .ensures)
 
 pub print-list-spec : {M : Type 1} → statement M
 print-list-spec =
     tie.close
     (tie.spec
     slice-aggregate-draw
+    plain-requires
     draw-requires
     enum-known-words
     array-share-prefix-sheet

@@ -1,11 +1,11 @@
 -- The lengths that are left go behind those that are written, and the total is the sum of those. Assumes nothing.
 use Prim.Native.Nat.{ℕ, _-_, _≤_}
 use native.Mathlib.Omega.{arith}
-use mathlib.Core.Path.{_≡_, refl, ap, _∙_}
+use mathlib.Core.Path.{_≡_, ap, _∙_}
 use mathlib.Core.List.{[], _∷_}
 use lib.ListN.{length}
 use Rattle.lists.proofs.Stores.{stored-as}
-use Rattle.lists.proofs.Storing.{Storing, storing-start, storing-next, storing-end, storing-kept, storing-room}
+use Rattle.lists.proofs.Storing.{Storing, storing-start, storing-next, storing-kept, storing-place, storing-last}
 use Rattle.words.specs.Words.{cableLengthWord, totalLengthWord}
 use Rattle.drawing.specs.Sheet.{lengthsSection}
 use Rattle.writer.specs.Values.{layoutIn}
@@ -56,11 +56,7 @@ put-requires c κs =
     let l = k .before .loop in
     let s = k .before .before .before in
     let d = layoutIn (s .args .t3) in
-    omega (
-      arith,
-      storing-room (s .pre .1) (l .inv .1 .0),
-      ap length (lengths-next d (l .line) (omega (arith, k .loop-test .taken, route-count (s .args .t3) (s .pre .0) (room s)))),
-    )
+    storing-place (s .pre .1) (lengths-next d (l .line) (omega (arith, k .loop-test .taken, route-count (s .args .t3) (s .pre .0) (room s)))) (l .inv .1 .0)
 
 cast-total : tie.Need-cast-total Inv-loop μ-loop
 cast-total c = omega arith
@@ -114,11 +110,7 @@ put-requires-2 c κs =
     let k = c .before .before in
     let l = k .before .loop in
     let s = k .before .before .before in
-    omega (
-      arith,
-      storing-room (s .pre .1) (l .inv .1 .0),
-      ap length (lengths-last (layoutIn (s .args .t3)) (l .line) (omega (arith, l .inv .0, k .loop-test .left, route-count (s .args .t3) (s .pre .0) (room s)))),
-    )
+    storing-place (s .pre .1) (lengths-last (layoutIn (s .args .t3)) (l .line) (omega (arith, l .inv .0, k .loop-test .left, route-count (s .args .t3) (s .pre .0) (room s)))) (l .inv .1 .0)
 
 same-length : tie.Need-same-length Inv-loop μ-loop
 same-length c = c .before .before .put2 .kept .0 ∙ storing-kept (c .before .before .before .before .before .before .loop .inv .1 .0)
@@ -131,7 +123,7 @@ returns c =
     let s = k .before .before .before in
     let e = lengths-last (layoutIn (s .args .t3)) (l .line) (omega (arith, l .inv .0, k .loop-test .left, route-count (s .args .t3) (s .pre .0) (room s))) in
     let w = p .before .total-length .ensures ∙ ap totalLengthWord (l .inv .1 .1) in
-    storing-end refl (storing-next [] e (stored-as (ap (λ (z : ℕ). z ∷ []) w) (p .put2 .ensures)) (l .inv .1 .0))
+    storing-last e w (p .put2 .ensures) (l .inv .1 .0)
 
 pub put-lengths-spec : {M : Type 1} → statement M
 put-lengths-spec =

@@ -1,0 +1,6 @@
+-- Request 2026-05: the price list, a customer's discount, the quote that a sheet ends with, and what is promised of it. Assumes nothing.
+pub mod PriceList
+pub mod Discounts
+pub mod Quote
+pub mod Quoted
+pub mod Values
