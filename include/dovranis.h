@@ -18,7 +18,8 @@
  * A list is one head, one ends word and m cables. A sheet is its head, the parts by number, then the
  * cables by line, each followed by its corners from the lower-ranked end upward, then the lengths by
  * line and their total. A call that is given a discount ends it with the bill: the prices by line and
- * their total.
+ * their total. A call that is given a spacing, two pitches and a margin, moves the parts and corners
+ * apart for print; lengths, prices and crossings are those of the grid in every spacing.
  */
 #ifndef DOVRANIS_H
 #define DOVRANIS_H
@@ -135,6 +136,72 @@ uint32_t dovranis_draw(const uint32_t *list, size_t list_count, uint32_t *sheet,
 uint32_t dovranis_draw_quoted(const uint32_t *list, size_t list_count, uint32_t *sheet,
                               size_t sheet_count, uint32_t discount, size_t *words,
                               size_t *crossings, size_t *place);
+
+/* Draws the sheet of a list in a spacing, for print: columns column_pitch apart, rows row_pitch apart,
+ * and a margin around them. Numbers of every size are answered; with pitches of 1 and a margin of 0
+ * every answer and every word is that of dovranis_draw.
+ *
+ * The result is 0 for a sheet, and else the number of the check that refuses, 1 to 11, 13 or 14. It,
+ * and all that is stored, depends on the words of the list, on sheet_count, on the two pitches and on
+ * the margin alone.
+ *
+ * 0, a sheet: as many words as dovranis_draw writes for this list, and the same crossings. Its words
+ * are those of dovranis_draw but for these:
+ *   - A part or a corner that stands at x, y there stands at margin + x * column_pitch,
+ *     margin + y * row_pitch here.
+ *   - The head carries the greatest x plus the margin and the greatest y plus the margin: twice the
+ *     margin and column_pitch times the grid's width, twice the margin and row_pitch times the grid's
+ *     height. The grid's width is m - n + 1, its height at most n + 1.
+ *   The words of kind 6, 8 and 10 do not change with the spacing: lengths count steps of the grid.
+ *
+ *   Of the spots that this sheet itself shows the same holds as there. No two parts share one, and by
+ *   rising row they are the smallest st-ordering. Each cable is level and upright runs in turn from one
+ *   of its two parts to the other. It does not touch itself or a part that it doesn't join, and its own
+ *   parts only with its ends. Any two cables have at most one crossing, and any other spot that they
+ *   share is that of a part that both join. The crossings, which are the grid's, are also all pairs of
+ *   cables whose lines cross on this sheet.
+ *
+ * A refusal: as dovranis_draw says, and
+ *
+ *   number  condition                                                             place
+ *   13      a pitch of 0 or above 64, or a margin above 255; the first of these   0 the column pitch,
+ *           faults in the sequence of their places                                1 the row pitch,
+ *                                                                                 2 the margin
+ *   14      a coordinate or a head field is above 4,095                           largest such number
+ *
+ * Check 13 is made first, before the list is looked at; then come checks 1 to 10, then 14, and last
+ * 11: so 14 comes whatever the length of the output. With an output of DOVRANIS_MOST_WORDS words, or
+ * of more, 11 never comes.
+ *
+ * What dovranis_draw says of the caller's memory, and what the caller sees to, holds of this call too.
+ */
+uint32_t dovranis_draw_spaced(const uint32_t *list, size_t list_count, uint32_t *sheet,
+                              size_t sheet_count, uint32_t column_pitch, uint32_t row_pitch,
+                              uint32_t margin, size_t *words, size_t *crossings, size_t *place);
+
+/* Draws the sheet of a list in a spacing for a customer with a discount: the sheet of
+ * dovranis_draw_spaced and behind it the bill of dovranis_draw_quoted. A bill does not change with the
+ * spacing, since its prices are those of the lengths, in steps of the grid. Numbers of every size are
+ * answered.
+ *
+ * The result is 0 for a sheet, and else the number of the check that refuses, 1 to 14. It, and all that
+ * is stored, depends on the words of the list, on sheet_count, on the discount, on the two pitches and
+ * on the margin alone.
+ *
+ * 0, a sheet: as dovranis_draw_spaced says, with the m + 1 words of kind 0 that dovranis_draw_quoted
+ * says behind the total of the lengths, and no word more; *words counts them, and is at most
+ * DOVRANIS_MOST_QUOTED_WORDS.
+ *
+ * 1 to 14, a refusal: as those calls say. Check 12 is made first and then 13, before the list is looked
+ * at; then come checks 1 to 10, then 14, and last 11, which measures the bill too. With an output of
+ * DOVRANIS_MOST_QUOTED_WORDS words, or of more, 11 never comes.
+ *
+ * What dovranis_draw says of the caller's memory, and what the caller sees to, holds of this call too.
+ */
+uint32_t dovranis_draw_quoted_spaced(const uint32_t *list, size_t list_count, uint32_t *sheet,
+                                     size_t sheet_count, uint32_t discount, uint32_t column_pitch,
+                                     uint32_t row_pitch, uint32_t margin, size_t *words,
+                                     size_t *crossings, size_t *place);
 
 #ifdef __cplusplus
 }

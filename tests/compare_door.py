@@ -1,8 +1,8 @@
 #!/usr/bin/env python3
 """Calls the library through its C form, beside reference.py, and compares the result, the numbers, the words written and every word around them.
 
-  compare_door.py [COUNT [SEED]]     COUNT lists (default 100000), each with several lengths of output, without a discount and with one, and with one that
-                                     is too large; then lists of a million words and null pointers
+  compare_door.py [COUNT [SEED]]     COUNT lists (default 100000), each with several lengths of output, without a discount and with one, on the grid and in
+                                     a spacing, and with a discount and a spacing that are turned away; then lists of a million words and null pointers
   compare_door.py --baseline ..      the same calls of baseline.c in place of the library
 
 List, output and numbers lie in one block of random bytes, with spare words between them; the whole block is compared after each call.
@@ -32,9 +32,9 @@ class Comparison:
     def __init__(self, lib, rng):
         self.lib, self.rng = lib, rng
         self.most, self.most_quoted = door.header()
-        self.tally, self.calls, self.wrong, self.longest, self.longest_quoted = {}, 0, 0, 0, 0
+        self.tally, self.calls, self.wrong, self.longest, self.longest_quoted, self.largest = {}, 0, 0, 0, 0, 0
 
-    def call(self, words, data, room, full, discount=None, null_list=False, null_output=False):
+    def call(self, words, data, room, full, discount=None, spacing=None, null_list=False, null_output=False):
         """One call; full is the answer for an output that is long enough."""
         due = ('refused', 11, len(full[1])) if full[0] == 'sheet' and room < len(full[1]) else full
         sheet = LIST + len(data) + SPARE
@@ -44,7 +44,12 @@ class Comparison:
         assert at % 8 == 0
         rows = None if null_list else at + LIST, len(words), None if null_output else at + sheet, room
         numbers = at + WORDS, at + CROSSINGS, at + PLACE
-        result = self.lib.call(*rows, *numbers) if discount is None else self.lib.quoted(*rows, discount, *numbers)
+        if spacing is None:
+            result = self.lib.call(*rows, *numbers) if discount is None else self.lib.quoted(*rows, discount, *numbers)
+        elif discount is None:
+            result = self.lib.spaced(*rows, *spacing, *numbers)
+        else:
+            result = self.lib.quoted_spaced(*rows, discount, *spacing, *numbers)
         after = bytearray(before)
         if due[0] == 'sheet':
             number, written = 0, packed(due[1])
@@ -54,14 +59,14 @@ class Comparison:
         else:
             number = due[1]
             after[PLACE:PLACE + 8] = due[2].to_bytes(8, 'little')
-        name = ('refused %2d' % number if number else 'sheet') + ('' if discount is None else ', with a discount')
+        name = ('refused %2d' % number if number else 'sheet') + ('' if discount is None else ', with a discount') + ('' if spacing is None else ', with a spacing')
         self.tally[name] = self.tally.get(name, 0) + 1
         self.calls += 1
         if result != number or block != after:
             self.wrong += 1
             if self.wrong <= 3:
-                print('differs: result %d, due %s; output of %d; discount %s; list of %d words %s' % (
-                    result, due[:1] + due[-1:], room, discount, len(words), ' '.join('%08x' % w for w in words[:40])))
+                print('differs: result %d, due %s; output of %d; discount %s; spacing %s; list of %d words %s' % (
+                    result, due[:1] + due[-1:], room, discount, spacing, len(words), ' '.join('%08x' % w for w in words[:40])))
 
     def far(self, most):
         return self.rng.choice([most, most + 1, self.rng.randint(most, 3000)])
@@ -91,6 +96,25 @@ class Comparison:
             self.call(words, data, room, quoted, discount)
         bad = lists.bad_discount(self.rng)
         self.call(words, data, self.rng.choice([0, size, self.far(self.most_quoted)]), reference.answer(words, None, bad), bad)
+
+    def compare_spaced(self, words, discount, spacing):
+        """The list in a spacing, without a discount and with this one; where there is a sheet, with output lengths of 0, one less, exact, and far more."""
+        data = packed(words)
+        for d, most in ((None, self.most), (discount, self.most_quoted)):
+            full = reference.answer(words, None, d, spacing)
+            rooms = [0, self.far(most)]
+            if full[0] == 'sheet':
+                size = len(full[1])
+                rooms += [size - 1, size]
+                self.largest = max(self.largest, *reference.two(full[1][0]))
+            for room in rooms:
+                self.call(words, data, room, full, d, spacing)
+
+    def compare_turned_away(self, words):
+        """The list with a spacing that is turned away, without a discount and with one, and with a discount that is turned away before it."""
+        data, bad = packed(words), lists.bad_spacing(self.rng)
+        for d in (None, lists.good_discount(self.rng), lists.bad_discount(self.rng)):
+            self.call(words, data, self.rng.choice([0, self.rng.randint(1, 40), self.far(self.most_quoted)]), reference.answer(words, None, d, bad), d, bad)
 
 
 # Lists
@@ -186,39 +210,58 @@ def compare_all(a, lib, good):
         for _, words in named:
             if len(words) < 20:
                 c.compare(words, discount)
-    for _ in range(count):
-        c.compare(any_list(rng), lists.good_discount(rng))
-    print('%d lists, and %d with a name; the longest sheet has %d words, with a bill %d; %.0f s' % (
-        count, len(named), c.longest, c.longest_quoted, time.time() - began))
+    for _, words, discount, spacing in lists.spaced():
+        c.compare_spaced(words, lists.good_discount(rng) if discount is None else discount, spacing)
+    for k, (_, words) in enumerate(named):
+        c.compare_spaced(words, lists.good_discount(rng), lists.GRID if k % 4 == 0 else lists.good_spacing(rng))
+    for k in range(count):
+        words = any_list(rng)
+        c.compare(words, lists.good_discount(rng))
+        c.compare_spaced(words, lists.good_discount(rng), lists.good_spacing(rng))
+        c.compare_turned_away(words)
+        # stations that can reach 4,095, which takes 56 parts
+        if k % 100 == 0:
+            words = lists.drawn(rng, 56, 130) if k % 1000 else lists.large(rng)
+            for _ in range(4):
+                c.compare_spaced(words, lists.good_discount(rng), lists.edge_spacing(rng, words))
+    print('%d lists, and %d with a name; the longest sheet has %d words, with a bill %d; the largest head field is %d; %.0f s' % (
+        count, len(named), c.longest, c.longest_quoted, c.largest, time.time() - began))
 
     began, calls = time.time(), c.calls
     for words in million(rng):
         c.compare(words, lists.good_discount(rng))
+        c.compare_spaced(words, lists.good_discount(rng), lists.good_spacing(rng))
+        c.compare_turned_away(words)
     triangle = lists.build(3, 0, 2, [(0, 1), (1, 2), (0, 2)])
     c.call(triangle, packed(triangle), 10000000, reference.answer(triangle))
     c.call(triangle, packed(triangle), 10000000, reference.answer(triangle, None, 500), 500)
+    for discount in (None, 500):
+        c.call(triangle, packed(triangle), 10000000, reference.answer(triangle, None, discount, (64, 64, 255)), discount, (64, 64, 255))
     print('lists of 65,537 and of a million words, and an output of ten million: %d calls, %.0f s' % (c.calls - calls, time.time() - began))
 
     # a count of 0 with a null pointer
     calls = c.calls
     for discount in [None] + lists.DISCOUNTS:
-        none = reference.answer([], None, discount)
-        for room in (0, 1, 100):
-            c.call([], b'', room, none, discount, null_list=True)
-        c.call([], b'', 0, none, discount, null_list=True, null_output=True)
-        for words in (triangle, triangle[:-1], [0, 0]):
-            c.call(words, packed(words), 0, reference.answer(words, None, discount), discount, null_output=True)
+        for spacing in (None, (2, 3, 10), (64, 64, 255), (0, 65, 256), (1, 65, 256), (1, 1, 256)):
+            def due(words):
+                return reference.answer(words, None, discount, spacing or reference.GRID)
+
+            for room in (0, 1, 100):
+                c.call([], b'', room, due([]), discount, spacing, null_list=True)
+            c.call([], b'', 0, due([]), discount, spacing, null_list=True, null_output=True)
+            for words in (triangle, triangle[:-1], [0, 0]):
+                c.call(words, packed(words), 0, due(words), discount, spacing, null_output=True)
     print('null pointers with a count of 0: %d calls' % (c.calls - calls))
 
     # the largest stations, on the stack that the header asks for
     calls = c.calls
     threading.stack_size(STACK)
-    large = [(words, room, reference.answer(words, None, discount), discount)
-             for name, words in named if '256 parts' in name for room, discount in ((c.most, None), (c.most_quoted, 1250))]
+    large = [(words, room, reference.answer(words, None, discount, spacing or reference.GRID), discount, spacing)
+             for name, words in named if '256 parts' in name for room, discount in ((c.most, None), (c.most_quoted, 1250)) for spacing in (None, (15, 15, 120), (64, 64, 255))]
 
     def small():
-        for words, room, full, discount in large:
-            c.call(words, packed(words), room, full, discount)
+        for words, room, full, discount, spacing in large:
+            c.call(words, packed(words), room, full, discount, spacing)
 
     thread = threading.Thread(target=small)
     thread.start()
@@ -229,7 +272,7 @@ def compare_all(a, lib, good):
     for name in sorted(c.tally):
         print('%8d %s' % (c.tally[name], name))
     print('%d calls, %d differ' % (c.calls, c.wrong))
-    return c.wrong > 0 or not good or (c.longest, c.longest_quoted) != (c.most, c.most_quoted)
+    return c.wrong > 0 or not good or (c.longest, c.longest_quoted, c.largest) != (c.most, c.most_quoted, 4095)
 
 
 if __name__ == '__main__':

@@ -2,11 +2,13 @@
 """The library as programs in C see it: the archive of the crate `exports`, linked as a shared object and called by ctypes.
 
   door.py       proves and builds the archive, compiles the header as C99 and as C++, compares its constants with the library's, and draws one sheet,
-                without a discount and with one
+                without a discount and with one, on the grid and in a spacing
 
   import door; lib = door.load(door.build())
   lib.draw(list_words, output_words) -> (result, words, crossings, place, output after)
   lib.draw_quoted(list_words, output_words, discount) -> the same
+  lib.draw_spaced(list_words, output_words, spacing), lib.draw_quoted_spaced(list_words, output_words, discount, spacing) -> the same; a spacing is a column
+      pitch, a row pitch and a margin
 
 It is no part of the gate."""
 import array
@@ -59,6 +61,8 @@ class Door:
 
         self.call = function('_draw', NUMBER, POINTER, SIZE, POINTER, SIZE, POINTER, POINTER, POINTER)
         self.quoted = function('_draw_quoted', NUMBER, POINTER, SIZE, POINTER, SIZE, NUMBER, POINTER, POINTER, POINTER)
+        self.spaced = function('_draw_spaced', NUMBER, POINTER, SIZE, POINTER, SIZE, NUMBER, NUMBER, NUMBER, POINTER, POINTER, POINTER)
+        self.quoted_spaced = function('_draw_quoted_spaced', NUMBER, POINTER, SIZE, POINTER, SIZE, NUMBER, NUMBER, NUMBER, NUMBER, POINTER, POINTER, POINTER)
         if name == 'dovranis':
             self.most_words = function('_most_words', SIZE)
             self.most_quoted_words = function('_most_quoted_words', SIZE)
@@ -76,6 +80,14 @@ class Door:
     def draw_quoted(self, list_words, output_words, discount, lent=(0, 0, 0)):
         """The call that is given a discount, as `draw`."""
         return self.asked(self.quoted, list_words, output_words, (discount,), lent)
+
+    def draw_spaced(self, list_words, output_words, spacing, lent=(0, 0, 0)):
+        """The call that is given a spacing, as `draw`."""
+        return self.asked(self.spaced, list_words, output_words, spacing, lent)
+
+    def draw_quoted_spaced(self, list_words, output_words, discount, spacing, lent=(0, 0, 0)):
+        """The call that is given both, as `draw`."""
+        return self.asked(self.quoted_spaced, list_words, output_words, (discount, *spacing), lent)
 
 
 def load(path):
@@ -99,8 +111,11 @@ def agree(lib):
 def main():
     lib = load(build())
     triangle = [0x10030003, 0x20000002, 0x30000001, 0x30001002, 0x30000002]
-    for what, (*numbers, output) in (('triangle', lib.draw(triangle, 18 * [0xa5a5a5a5])),
-                                     ('with a discount of 1,250', lib.draw_quoted(triangle, 18 * [0xa5a5a5a5], 1250))):
+    row, spacing = 18 * [0xa5a5a5a5], (2, 3, 10)
+    for what, (*numbers, output) in (('triangle', lib.draw(triangle, row)),
+                                     ('with a discount of 1,250', lib.draw_quoted(triangle, row, 1250)),
+                                     ('with pitches of 2 and 3 and a margin of 10', lib.draw_spaced(triangle, row, spacing)),
+                                     ('with both', lib.draw_quoted_spaced(triangle, row, 1250, spacing))):
         print('%s: result %d, words %d, crossings %d, place %d' % (what, *numbers))
         print(' '.join('%08x' % w for w in output))
     return not agree(lib)

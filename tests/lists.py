@@ -237,14 +237,26 @@ def large(rng):
     return listed(rng, n, cables, s, t, rng.random() < 0.7)
 
 
-def rooms(words):
-    """Lengths of output to try for a list that passes checks 1 to 10: around
-    the 4m - n + 4 + d + e words of its sheet, and none at all."""
+def counts(words):
+    """n, m and d + e of a list that passes checks 1 to 10."""
     n, m = words[0] >> 16 & 0xfff, words[0] & 0xffff
     count = degrees(n, [(w >> 12 & 0xfff, w & 0xfff) for w in words[2:]])
     s, t = words[1] >> 12 & 0xfff, words[1] & 0xfff
-    size = 4 * m - n + 4 + (count[s] == 4) + (count[t] == 4)
+    return n, m, (count[s] == 4) + (count[t] == 4)
+
+
+def rooms(words):
+    """Lengths of output to try for a list that passes checks 1 to 10: around
+    the 4m - n + 4 + d + e words of its sheet, and none at all."""
+    n, m, de = counts(words)
+    size = 4 * m - n + 4 + de
     return [0, 1, size - 2, size - 1, size, size + 1]
+
+
+def extent(words):
+    """Width and height of the grid of a list that passes checks 1 to 10."""
+    n, m, de = counts(words)
+    return m - n + 1, n - 1 + de
 
 
 # Faults, each put into the words of a list. Another may hide it.
@@ -725,6 +737,161 @@ def bad_discount(rng):
 def discount(rng):
     """Any number of 32 bits; one in five fails check 12."""
     return (bad_discount if rng.random() < 0.2 else good_discount)(rng)
+
+
+# Spacings: column pitch, row pitch, margin.
+
+GRID = 1, 1, 0
+PITCHES = [1, 2, 3, 15, 16, 17, 63, 64]
+BAD_PITCHES = [0, 65, 128, 256, 257, 65535, 65536, 65537, (1 << 31) + 1, (1 << 32) - 64, (1 << 32) - 1]
+MARGINS = [0, 1, 7, 8, 127, 128, 254, 255]
+BAD_MARGINS = [256, 257, 511, 65535, 65536, 65537, 1 << 31, (1 << 32) - 255, (1 << 32) - 1]
+
+
+def good_pitch(rng):
+    return rng.choice([rng.choice(PITCHES), rng.randint(1, 64), rng.randint(1, 64)])
+
+
+def good_margin(rng):
+    return rng.choice([rng.choice(MARGINS), rng.randint(0, 255), rng.randint(0, 255)])
+
+
+def good_spacing(rng):
+    """A spacing that passes check 13."""
+    return good_pitch(rng), good_pitch(rng), good_margin(rng)
+
+
+def bad_spacing(rng):
+    """A spacing with one, two or three faults."""
+    out = list(good_spacing(rng))
+    for place in rng.sample(range(3), rng.choice([1, 1, 2, 3])):
+        bad, most = (BAD_MARGINS, 255) if place == 2 else (BAD_PITCHES, 64)
+        out[place] = rng.choice([rng.choice(bad), rng.randint(most + 1, 4 * most), rng.randint(most + 1, (1 << 32) - 1)])
+    return tuple(out)
+
+
+def spacing(rng):
+    """Any three numbers of 32 bits; one in five fails check 13."""
+    return (bad_spacing if rng.random() < 0.2 else good_spacing)(rng)
+
+
+def edge_spacing(rng, words):
+    """A spacing that brings a head field of this list's sheet to 4,095 or a little
+    beside it, as far as pitch and margin reach. The list passes checks 1 to 10."""
+    side = rng.randrange(2)
+    size = extent(words)[side]
+    pitch = min(64, max(1, 4095 // size))
+    pitch = rng.choice([pitch, pitch, max(1, pitch - 1), rng.randint(1, pitch)])
+    margin = (4095 - pitch * size) // 2 + rng.choice([-1, 0, 0, 1, 1, 2])
+    other = rng.choice([pitch, good_pitch(rng), rng.randint(1, pitch)])
+    margin = min(255, max(0, margin))
+    return (other, pitch, margin) if side else (pitch, other, margin)
+
+
+def ring_list(n):
+    """The grid is 1 wide and n - 1 high."""
+    return build(n, 0, n - 1, sorted(ring(n)[1]))
+
+
+def full_list(n):
+    """Four cables at each part: the grid is n + 1 wide and high."""
+    return build(n, 0, n - 1, sorted(second_neighbours(n)[1]))
+
+
+def wide_list(n):
+    """Without the cable between s and t the grid is n wide and n - 1 high."""
+    return build(n, 0, n - 1, sorted(second_neighbours(n)[1] - {(0, n - 1)}))
+
+
+# Stations at the edge of check 14: for each spacing the larger head field of the
+# sheet, worked by hand from the grid's width and height.
+EDGES = [
+    ('ring of 256', ring_list(256), [
+        ((1, 16, 0), 4080), ((1, 16, 7), 4094), ((64, 16, 7), 4094), ((64, 1, 255), 765), ((1, 15, 135), 4095),
+        ((1, 16, 8), 4096), ((1, 15, 136), 4097), ((1, 17, 0), 4335), ((1, 16, 255), 4590), ((1, 64, 0), 16320), ((64, 64, 255), 16830)]),
+    ('ring of 66', ring_list(66), [
+        ((1, 63, 0), 4095), ((1, 62, 32), 4094), ((1, 62, 33), 4096), ((1, 63, 1), 4097), ((1, 64, 0), 4160)]),
+    ('ring of 65', ring_list(65), [((1, 63, 31), 4094), ((1, 63, 32), 4096), ((1, 64, 0), 4096), ((64, 64, 0), 4096)]),
+    ('ring of 64', ring_list(64), [((1, 64, 31), 4094), ((1, 63, 63), 4095), ((1, 64, 32), 4096), ((1, 63, 64), 4097)]),
+    # The largest ring that the widest spacing has room for, and the next one.
+    ('ring of 57', ring_list(57), [((64, 64, 255), 4094)]),
+    ('ring of 58', ring_list(58), [((64, 64, 223), 4094), ((64, 64, 224), 4096), ((64, 64, 255), 4158)]),
+    ('64 parts, 128 cables', full_list(64), [
+        ((63, 1, 0), 4095), ((1, 63, 0), 4095), ((63, 63, 0), 4095), ((63, 1, 1), 4097), ((1, 63, 1), 4097),
+        ((64, 1, 0), 4160), ((1, 64, 0), 4160), ((63, 64, 0), 4160), ((64, 63, 0), 4160), ((63, 64, 1), 4162), ((64, 63, 1), 4162),
+        ((64, 64, 255), 4670)]),
+    ('63 parts, 126 cables', full_list(63), [((63, 1, 31), 4094), ((63, 1, 32), 4096), ((64, 1, 0), 4096), ((1, 64, 0), 4096)]),
+    ('62 parts, 124 cables', full_list(62), [((64, 1, 31), 4094), ((63, 1, 63), 4095), ((64, 1, 32), 4096), ((63, 1, 64), 4097)]),
+    ('255 parts, 510 cables', full_list(255), [
+        ((15, 1, 127), 4094), ((15, 1, 128), 4096), ((16, 1, 0), 4096), ((1, 16, 0), 4096), ((16, 16, 0), 4096)]),
+    ('256 parts, 511 cables', wide_list(256), [
+        ((15, 16, 0), 4080), ((15, 16, 7), 4094), ((15, 15, 127), 4094),
+        ((15, 16, 8), 4096), ((15, 15, 128), 4096), ((16, 16, 0), 4096), ((16, 17, 0), 4335), ((17, 16, 0), 4352)]),
+    # The longest sheets.
+    ('256 parts, 512 cables', full_list(256), [
+        ((15, 15, 120), 4095), ((15, 1, 120), 4095), ((1, 15, 120), 4095), ((15, 15, 121), 4097),
+        ((16, 1, 0), 4112), ((1, 16, 0), 4112), ((16, 20, 0), 5140), ((20, 16, 0), 5140), ((64, 64, 255), 16958)]),
+]
+
+
+def spaced():
+    """Calls with a spacing, as (name, list, discount or None, spacing). Names are
+    as those of `boundaries`."""
+    out = []
+
+    def put(due, what, words, given, discount=None):
+        out.append(('%s, %s, spacing %d %d %d%s' % (
+            due, what, *given, '' if discount is None else ', discount %d' % discount), words, discount, given))
+
+    def no(check, place, *rest):
+        put('refused %d %d' % (check, place), *rest)
+
+    # 13
+    triangle = build(3, 0, 2, [(0, 1), (1, 2), (0, 2)])
+    for place, good, bad in ((0, PITCHES, BAD_PITCHES), (1, PITCHES, BAD_PITCHES), (2, MARGINS, BAD_MARGINS)):
+        for numbers, refuses in ((good, False), (bad, True)):
+            for k in numbers:
+                given = [2, 3, 10]
+                given[place] = k
+                if refuses:
+                    no(13, place, 'triangle', triangle, tuple(given))
+                else:
+                    put('sheet', 'triangle', triangle, tuple(given))
+    put('sheet', 'triangle', triangle, (64, 64, 255))
+    for place, given in ((0, (0, 0, 0)), (0, (0, 65, 256)), (0, (65, 64, 256)), (0, (0, 65, 255)), (0, ((1 << 32) - 1,) * 3),
+                         (1, (1, 65, 256)), (1, (64, 0, (1 << 32) - 1)), (1, (64, 65, 255)), (2, (64, 64, 256)), (2, (1, 1, 65536))):
+        no(13, place, 'triangle', triangle, given)
+    for discount in (0, 1250, 10000):
+        no(13, 0, 'triangle', triangle, (0, 1, 0), discount)
+        put('sheet', 'triangle', triangle, (2, 3, 10), discount)
+    for discount in (10001, (1 << 32) - 1):
+        for given in ((0, 65, 256), (1, 1, 256), (1, 1, 0)):
+            no(12, discount, '12 before 13', triangle, given, discount)
+
+    # 13 comes before the list, and a good spacing changes no refusal of 1 to 10.
+    first = {}
+    for name, words in boundaries():
+        due = name.split(',')[0].split()
+        if due[0] == 'refused':
+            first.setdefault(int(due[1]), (int(due[2]), words))
+    for check, (place, words) in sorted(first.items()):
+        no(13, 0, '13 before %d' % check, words, (0, 1, 0))
+        no(13, 1, '13 before %d' % check, words, (64, 65, 256), 500)
+        no(13, 2, '13 before %d' % check, words, (1, 1, 256))
+        no(12, 10001, '12 before 13 and %d' % check, words, (1, 0, 0), 10001)
+        no(check, place, 'check %d' % check, words, (64, 64, 255))
+        no(check, place, 'check %d' % check, words, (2, 3, 10), 1250)
+
+    # 14
+    for what, words, rows in EDGES:
+        for k, (given, largest) in enumerate(rows):
+            due = 'sheet' if largest <= 4095 else 'refused 14 %d' % largest
+            put(due, what, words, given)
+            put(due, what, words, given, GOOD[k % len(GOOD)])
+    no(10, 1, '10 before 14', build(256, 0, 255, [(p, p + 1) for p in range(255)]), (64, 64, 255))
+    no(9, 255, '9 before 14', build(256, 0, 1, sorted(ring(255)[1])), (64, 64, 255), 500)
+    no(13, 2, '13 before 14', ring_list(256), (64, 64, 256))
+    return out
 
 
 def files():

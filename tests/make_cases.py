@@ -3,8 +3,8 @@
 
   make_cases.py [SEED]
 
-stdin: for each call the count of its list's words, 1 if a discount is given and else 0, the discount or 0, and the list's words; all of these are words of
-32 bits, each most significant byte first. stdout: see `expected`."""
+stdin: for each call the count of its list's words, 1 if a discount is given and else 0, the discount or 0, the column pitch, the row pitch, the margin, and
+the list's words; all of these are words of 32 bits, each most significant byte first. stdout: see `expected`."""
 import os
 import random
 import struct
@@ -26,6 +26,12 @@ WORKED = (
     '1005000a 20000004 30000001 30000002 30000003 30000004 30001002 30001003 30001004 30002003 30002004 30003004')
 
 DISCOUNTS = (0, 5, 500, 1250, 10000, 10001, 4294967295)
+
+SPACINGS = ((2, 3, 10), (64, 64, 255), (1, 64, 0), (64, 1, 1))
+
+# of the largest stations four calls that 14 lets pass, by the width and by the height, and six that it refuses; of those on 57 to 66 parts all
+EDGES = {'ring of 256': ((1, 15, 135), (1, 16, 7), (1, 16, 8), (64, 64, 255)), '255 parts, 510 cables': ((15, 1, 128), (1, 16, 0)),
+         '256 parts, 511 cables': ((15, 16, 7), (16, 16, 0)), '256 parts, 512 cables': ((15, 15, 120), (16, 20, 0))}
 
 # the program takes 131,072 bytes
 MOST_BYTES = 120000
@@ -51,7 +57,7 @@ def without_discount(rng):
             wanted[shape(words)] -= 1
             out.append(words)
     out += [lists.refused(rng) for _ in range(40)]
-    return [(words, None) for words in out]
+    return [(words, None, reference.GRID) for words in out]
 
 
 def with_discount(rng):
@@ -65,7 +71,32 @@ def with_discount(rng):
             out += [(reference.hexes(text), lists.good_discount(rng)), (reference.hexes(text), lists.bad_discount(rng))]
     large = dict(lists.boundaries())
     out += [(large[name], d) for name, d in zip(LARGE, (1250, 5, 0))]
-    return out + [(lists.drawn(rng, 3, 40), lists.good_discount(rng)) for _ in range(40)]
+    out += [(lists.drawn(rng, 3, 40), lists.good_discount(rng)) for _ in range(40)]
+    return [(words, d, reference.GRID) for words, d in out]
+
+
+def with_spacing(rng):
+    """The worked stations, without a discount and with one; each fault of a spacing, two at once, and 12 before it; a bad and a good spacing with an example
+    of each check; stations at the edge of 4,095, with a discount now and then; random ones."""
+    out = [(words, d, spacing) for words in worked() for k, spacing in enumerate(SPACINGS) for d in ((None, 1250) if k < 2 else (None,))]
+    triangle = worked()[0]
+    for place in range(3):
+        for k in (0, 64, 65, 65537, 4294967295) if place < 2 else (255, 256, 65536, 4294967295):
+            given = [2, 3, 10]
+            given[place] = k
+            out.append((triangle, None, tuple(given)))
+    out += [(triangle, None, spacing) for spacing in ((0, 0, 0), (65, 1, 256), (0, 65, 256), (1, 65, 256), (64, 0, 4294967295))]
+    out += [(triangle, d, (0, 65, 256)) for d in (0, 10000, 10001, 4294967295)] + [([], 10001, (1, 1, 256))]
+    for k, (text, _, (check, _)) in enumerate(reference.REFUSALS):
+        if check <= 10:
+            out += [(reference.hexes(text), None if k % 2 else lists.good_discount(rng), lists.bad_spacing(rng)),
+                    (reference.hexes(text), lists.good_discount(rng) if k % 2 else None, lists.good_spacing(rng))]
+    for what, words, rows in lists.EDGES:
+        chosen = EDGES.get(what) or [spacing for spacing, _ in rows]
+        out += [(words, 1250 if k % 3 == 2 else None, spacing) for k, spacing in enumerate(chosen)]
+    large = dict(lists.boundaries())
+    out += [(large['refused 10 1, path of 256'], None, (64, 64, 255)), (lists.full_list(256), 1250, (15, 15, 120))]
+    return out + [(lists.drawn(rng, 3, 24), lists.good_discount(rng) if k % 3 == 2 else None, lists.good_spacing(rng)) for k in range(30)]
 
 
 def line(answer):
@@ -74,20 +105,20 @@ def line(answer):
     return 'refused %d %d' % answer[1:]
 
 
-def expected(words, discount):
+def expected(words, *given):
     """With room to spare: the answer, the sheet's words, and that what lies behind is as it was. Of a sheet also: the answer and the words with the
     exact room, and the answer with one word less. Of a refusal also: the answer with no room."""
-    spare = reference.answer(words, None, discount)
+    spare = reference.answer(words, None, *given)
     if spare[0] != 'sheet':
-        return [line(spare), 'kept', line(reference.answer(words, 0, discount)), 'kept']
+        return [line(spare), 'kept', line(reference.answer(words, 0, *given)), 'kept']
     k = len(spare[1])
     return ([line(spare)] + ['%08x' % w for w in spare[1]] + ['kept']
-            + [line(reference.answer(words, k, discount)), 'same']
-            + [line(reference.answer(words, k - 1, discount)), 'kept'])
+            + [line(reference.answer(words, k, *given)), 'same']
+            + [line(reference.answer(words, k - 1, *given)), 'kept'])
 
 
 def say(what, calls):
-    sheets = [got for got in (reference.answer(words, None, d) for words, d in calls) if got[0] == 'sheet']
+    sheets = [got for got in (reference.answer(words, None, *given) for words, *given in calls) if got[0] == 'sheet']
     most = max(len(got[1]) for got in sheets)
     print('%s: %d calls, %d drawn, the longest sheet has %d words' % (what, len(calls), len(sheets), most))
     return most
@@ -95,21 +126,22 @@ def say(what, calls):
 
 def main(a):
     rng = random.Random(int(a[0]) if a else 1)
-    plain, quoted = without_discount(rng), with_discount(rng)
-    most = say('without a discount', plain), say('with one', quoted)
-    if most != (1798, 2311):
-        sys.exit('the longest sheets should have 1798 and 2311 words')
+    plain, quoted, spaced = without_discount(rng), with_discount(rng), with_spacing(rng)
+    most = say('without a discount', plain), say('with one', quoted), say('with a spacing', spaced)
+    if most != (1798, 2311, 2311):
+        sys.exit('the longest sheets should have 1798, 2311 and 2311 words')
+    calls = plain + quoted + spaced
     data, text = b'', []
-    for words, d in plain + quoted:
-        data += struct.pack('>%dI' % (len(words) + 3), len(words), d is not None, d or 0, *words)
-        text += expected(words, d)
+    for words, d, spacing in calls:
+        data += struct.pack('>%dI' % (len(words) + 6), len(words), d is not None, d or 0, *spacing, *words)
+        text += expected(words, d, spacing)
     if len(data) > MOST_BYTES:
         sys.exit('%d bytes are too many' % len(data))
     with open(os.path.join(CRATE, 'stdin'), 'wb') as f:
         f.write(data)
     with open(os.path.join(CRATE, 'stdout'), 'w') as f:
         f.write('\n'.join(text) + '\n')
-    print('%d calls, %d bytes' % (len(plain + quoted), len(data)))
+    print('%d calls, %d bytes' % (len(calls), len(data)))
 
 
 if __name__ == '__main__':

@@ -4,10 +4,12 @@
   measure.py [WORD..]              a line for each list whose name has all the words: instructions and time of both, and the ratios
   measure.py --markdown [WORD..]   the same as a table for docs/PERFORMANCE.md
   measure.py --quoted [WORD..]     as a table: instructions of both, without a discount and with one (`dovranis_draw_quoted`), and what a cable's price takes
+  measure.py --spaced [WORD..]     as a table: instructions of both, on the grid and in a spacing (`dovranis_draw_spaced`), and what a spot on the sheet takes
   measure.py --functions [WORD..]  where the instructions go, on stations of 256 parts
   measure.py --passes [WORD..]     instructions on stations of 256 parts, with baseline.c in its simpler form too: a depth-first pass at each rank
   measure.py --program             instructions of the program target/bin/sheet (made by `rt check sheet`) and of baseline.c as a program
-  --archive FILE                   takes this archive, and neither proves nor builds one; it may be without `dovranis_draw_quoted`, but for --quoted
+  --archive FILE                   takes this archive, and neither proves nor builds one; it may be without `dovranis_draw_quoted`, but for --quoted, and without
+                                   `dovranis_draw_spaced` and `dovranis_draw_quoted_spaced`, but for --spaced
 
 It needs cc, nm, objdump and valgrind. Instructions are callgrind's, of one call and all that it calls. Time is the best of many rounds, a round being
 as many calls as take 20 microseconds; the two have four rounds each in turn. Both answers are compared. It is no part of the gate."""
@@ -27,6 +29,7 @@ HERE = os.path.dirname(os.path.abspath(__file__))
 PROGRAM = os.path.join(door.TOP, 'target', 'bin', 'sheet')
 ROOM = 4096                     # words of output, more than any sheet has
 DISCOUNT = 1250
+SPACING = 8, 6, 20              # column pitch, row pitch, margin: every station here fits
 SWEEPS, SECONDS = 10, 0.1       # over all lists, so that a busy minute of the machine spoils no list's best; for one list in a sweep, both calls together
 
 DRIVER = r'''
@@ -38,26 +41,41 @@ DRIVER = r'''
 
 typedef uint32_t plain(const uint32_t *, size_t, uint32_t *, size_t, size_t *, size_t *, size_t *);
 typedef uint32_t quoted(const uint32_t *, size_t, uint32_t *, size_t, uint32_t, size_t *, size_t *, size_t *);
+typedef uint32_t spaced(const uint32_t *, size_t, uint32_t *, size_t, uint32_t, uint32_t, uint32_t, size_t *, size_t *, size_t *);
+typedef uint32_t quoted_spaced(const uint32_t *, size_t, uint32_t *, size_t, uint32_t, uint32_t, uint32_t, uint32_t, size_t *, size_t *, size_t *);
 plain baseline_draw;
 quoted baseline_draw_quoted;
+spaced baseline_draw_spaced;
+quoted_spaced baseline_draw_quoted_spaced;
 
 struct answer { uint32_t result, sheet[4096]; size_t words, crossings, place; };
 
-static uint32_t *list, discount;
+static uint32_t *list, discount, columns, rows, margin;
 static size_t count, room;
 
 typedef void call(struct answer *);
 
 static void ask(plain *draw, struct answer *a) { a->result = draw(list, count, a->sheet, room, &a->words, &a->crossings, &a->place); }
 static void ask_quoted(quoted *draw, struct answer *a) { a->result = draw(list, count, a->sheet, room, discount, &a->words, &a->crossings, &a->place); }
+static void ask_spaced(spaced *draw, struct answer *a) { a->result = draw(list, count, a->sheet, room, columns, rows, margin, &a->words, &a->crossings, &a->place); }
+static void ask_quoted_spaced(quoted_spaced *draw, struct answer *a) { a->result = draw(list, count, a->sheet, room, discount, columns, rows, margin, &a->words, &a->crossings, &a->place); }
 
 static void ours_plain(struct answer *a) { ask(dovranis_draw, a); }
 static void theirs_plain(struct answer *a) { ask(baseline_draw, a); }
 static void theirs_quoted(struct answer *a) { ask_quoted(baseline_draw_quoted, a); }
+static void theirs_spaced(struct answer *a) { ask_spaced(baseline_draw_spaced, a); }
+static void theirs_quoted_spaced(struct answer *a) { ask_quoted_spaced(baseline_draw_quoted_spaced, a); }
 #ifdef QUOTED
 static void ours_quoted(struct answer *a) { ask_quoted(dovranis_draw_quoted, a); }
 #else
 #define ours_quoted NULL
+#endif
+#ifdef SPACED
+static void ours_spaced(struct answer *a) { ask_spaced(dovranis_draw_spaced, a); }
+static void ours_quoted_spaced(struct answer *a) { ask_quoted_spaced(dovranis_draw_quoted_spaced, a); }
+#else
+#define ours_spaced NULL
+#define ours_quoted_spaced NULL
 #endif
 
 static double now(void) {
@@ -79,10 +97,12 @@ static long calls_of_a_round(call *draw) {
     return calls;
 }
 
-/* FILE ROOM ours|baseline|SECONDS [DISCOUNT] */
+static uint32_t number(const char *text) { return strtoul(text, NULL, 10); }
+
+/* FILE ROOM ours|baseline|SECONDS [DISCOUNT] [COLUMN_PITCH ROW_PITCH MARGIN] */
 int main(int argc, char **argv) {
     static struct answer ours, theirs;
-    if (argc != 4 && argc != 5) return 2;
+    if (argc != 4 && argc != 5 && argc != 7 && argc != 8) return 2;
     FILE *f = fopen(argv[1], "rb");
     fseek(f, 0, SEEK_END);
     count = ftell(f) / 4;
@@ -90,11 +110,14 @@ int main(int argc, char **argv) {
     list = malloc(4 * count + 4);
     if (fread(list, 4, count, f) != count) return 2;
     room = atol(argv[2]);
-    call *draws[2] = {ours_plain, theirs_plain};
-    if (argc == 5) {
-        discount = strtoul(argv[4], NULL, 10);
-        draws[0] = ours_quoted;
-        draws[1] = theirs_quoted;
+    int with_discount = argc == 5 || argc == 8, with_spacing = argc > 5;
+    call *all[2][2][2] = {{{ours_plain, theirs_plain}, {ours_spaced, theirs_spaced}}, {{ours_quoted, theirs_quoted}, {ours_quoted_spaced, theirs_quoted_spaced}}};
+    call **draws = all[with_discount][with_spacing];
+    if (with_discount) discount = number(argv[4]);
+    if (with_spacing) {
+        columns = number(argv[argc - 3]);
+        rows = number(argv[argc - 2]);
+        margin = number(argv[argc - 1]);
     }
     if (!strcmp(argv[3], "ours")) { draws[0](&ours); return 0; }
     if (!strcmp(argv[3], "baseline")) { draws[1](&theirs); return 0; }
@@ -192,14 +215,15 @@ def chosen(rows, asked):
     return [row for row in rows if all(re.search(r'(?<!\w)%s(?!\w)' % re.escape(word), row[0]) for word in asked)]
 
 
-# The two calls.
+# The calls. What one is given: nothing, a discount, a spacing, or a discount and a spacing, as a row of numbers.
 
 class Driver:
     def __init__(self, folder, archive, flags=()):
         self.folder, self.program = folder, os.path.join(folder, 'driver')
         symbols = subprocess.run(['nm', archive], check=True, stdout=subprocess.PIPE, text=True).stdout
         self.has_quoted = ' T dovranis_draw_quoted\n' in symbols
-        flags = [*flags, '-DQUOTED'] if self.has_quoted else flags
+        self.has_spaced = all(' T dovranis_draw%s_spaced\n' % k in symbols for k in ('', '_quoted'))
+        flags = [*flags, *(['-DQUOTED'] if self.has_quoted else []), *(['-DSPACED'] if self.has_spaced else [])]
         os.mkdir(folder)
         source = self.program + '.c'
         with open(source, 'w') as f:
@@ -212,9 +236,9 @@ class Driver:
             f.write(b''.join(w.to_bytes(4, 'little') for w in words))
         return path
 
-    def run_both(self, name, words, room, seconds, more=()):
+    def run_both(self, name, words, room, seconds, given=()):
         """Seconds of ours and of the baseline, whose answers are compared."""
-        same, result, place, ours, theirs = subprocess.run([self.program, self.keep(words), str(room), str(seconds), *more], check=True, stdout=subprocess.PIPE, text=True).stdout.split()
+        same, result, place, ours, theirs = subprocess.run([self.program, self.keep(words), str(room), str(seconds), *map(str, given)], check=True, stdout=subprocess.PIPE, text=True).stdout.split()
         if same != '1':
             sys.exit('%s: the answers differ' % name)
         if result != (name.split()[1] if name.startswith('refused') else '0'):
@@ -224,17 +248,17 @@ class Driver:
     def times(self, name, words, room):
         return self.run_both(name, words, room, SECONDS)
 
-    def trace(self, which, words, room, more=(), discount=None):
+    def trace(self, which, words, room, more=(), given=()):
         """The path of callgrind's file for one call, and the instructions."""
         out = os.path.join(self.folder, 'callgrind.out')
-        name = {'ours': 'dovranis_draw', 'baseline': 'baseline_draw'}[which] + ('' if discount is None else '_quoted')
-        asked = [self.program, self.keep(words), str(room), which] + ([] if discount is None else [str(discount)])
+        name = {'ours': 'dovranis_draw', 'baseline': 'baseline_draw'}[which] + {0: '', 1: '_quoted', 3: '_spaced', 4: '_quoted_spaced'}[len(given)]
+        asked = [self.program, self.keep(words), str(room), which, *map(str, given)]
         r = subprocess.run(['valgrind', '--tool=callgrind', '--toggle-collect=' + name, '--callgrind-out-file=' + out, *more, *asked],
                            check=True, stdout=subprocess.PIPE, stderr=subprocess.PIPE)
         return out, int(re.search(rb'Collected : (\d+)', r.stderr).group(1))
 
-    def instructions(self, which, words, room, discount=None):
-        return self.trace(which, words, room, discount=discount)[1]
+    def instructions(self, which, words, room, given=()):
+        return self.trace(which, words, room, given=given)[1]
 
 
 HEADS = ('list', 'words', 'instructions', 'baseline', 'ratio', 'µs', 'baseline', 'ratio')
@@ -276,15 +300,40 @@ def quoted(driver, asked):
         sys.exit('the archive has no dovranis_draw_quoted')
     print('| list | cables | without a discount | with one | more a cable | baseline, without | with one | more a cable |\n|---|' + '---:|' * 7)
     for name, words, room in chosen(stations(), asked):
-        driver.run_both(name, words, room, 0, [str(DISCOUNT)])
+        driver.run_both(name, words, room, 0, [DISCOUNT])
         m, row = len(words) - 2, []
         for which in ('ours', 'baseline'):
-            plain, bill = (driver.instructions(which, words, room, d) for d in (None, DISCOUNT))
+            plain, bill = (driver.instructions(which, words, room, given) for given in ([], [DISCOUNT]))
             row += ['{:,}'.format(plain), '{:,}'.format(bill), '%.1f' % ((bill - plain) / m)]
         print('| %s | %s |' % (name, ' | '.join(['{:,}'.format(m)] + row)), flush=True)
-    name, words, room = 'refused 12', next(refusals())[1], ROOM
-    driver.run_both(name, words, room, 0, ['10001'])
-    print('\n- refused 12: %d instructions, baseline %d' % tuple(driver.instructions(which, words, room, 10001) for which in ('ours', 'baseline')))
+    print()
+    refused(driver, 12, next(refusals())[1], [10001])
+
+
+def refused(driver, check, words, given):
+    """A line for the call that this check refuses."""
+    driver.run_both('refused %d' % check, words, ROOM, 0, given)
+    print('- refused %d: %s instructions, baseline %s' % (check, *('{:,}'.format(driver.instructions(which, words, ROOM, given)) for which in ('ours', 'baseline'))))
+
+
+def spaced(driver, asked):
+    """The calls with a spacing, and with a discount and a spacing, are compared on each list too. Spots are the words that a spacing changes: the head, the parts
+    and the corners."""
+    if not driver.has_spaced:
+        sys.exit('the archive has no dovranis_draw_spaced and dovranis_draw_quoted_spaced')
+    print('| list | spots | on the grid | in a spacing | more a spot | baseline, on the grid | in a spacing | more a spot |\n|---|' + '---:|' * 7)
+    for name, words, room in chosen(stations(), asked):
+        for given in (SPACING, (DISCOUNT, *SPACING)):
+            driver.run_both(name, words, room, 0, given)
+        n, m, de = lists.counts(words)
+        spots, row = 1 + n + 2 * m - 2 * n + 2 + de, []
+        for which in ('ours', 'baseline'):
+            grid, wider = (driver.instructions(which, words, room, given) for given in ([], SPACING))
+            row += ['{:,}'.format(grid), '{:,}'.format(wider), '%.1f' % ((wider - grid) / spots)]
+        print('| %s | %s |' % (name, ' | '.join(['{:,}'.format(spots)] + row)), flush=True)
+    print()
+    refused(driver, 13, next(refusals())[1], (64, 64, 256))
+    refused(driver, 14, lists.full_list(256), (64, 64, 255))
 
 
 # Where the instructions go. The archive has one large function with most others inside: the call, or one that it calls. So each of its instructions is given to
@@ -451,6 +500,8 @@ def main(args):
             return functions(driver, Driver(os.path.join(folder, 'stages'), archive, ['-DBASELINE_STAGES']), asked)
         if '--quoted' in args:
             return quoted(driver, asked)
+        if '--spaced' in args:
+            return spaced(driver, asked)
         if '--passes' in args:
             return passes(driver, Driver(os.path.join(folder, 'passes'), archive, ['-DBASELINE_PASS_PER_RANK=1']), asked)
         return compare(driver, asked, '--markdown' in args)

@@ -1,6 +1,7 @@
-// Makes every call of a stored file, for the gate: standard input holds for each call the count of its list's words, whether a discount is given, the discount, and
-// the list's words, each most significant byte first. Each list is drawn with room to spare, filled with a mark; a sheet also with the exact room and with one
+// Makes every call of a stored file, for the gate: standard input holds for each call the count of its list's words, whether a discount is given, the discount, the column pitch,
+// the row pitch, the margin, and the list's words, each most significant byte first. Each list is drawn with room to spare, filled with a mark; a sheet also with the exact room and with one
 // word less, a refused list also with no room. Printed are the answers, the sheet's words, and whether what lies behind them is as it was.
+use drawing::spacing::Spacing;
 use hookup::Answer;
 use hookup::Options;
 use libc::STDIN_FILENO;
@@ -10,6 +11,8 @@ use text::lines::put_hex_lines;
 use text::lines::put_number;
 use text::lines::put_refused;
 use words::limits::MOST_QUOTED_WORDS;
+ghost use Prim.Native.Nat.{_+_, _<_};
+ghost use lib.ListN.{length};
 
 const MARK: u32 = 0xa5a5_a5a5;
 
@@ -149,24 +152,32 @@ fn draw_list(list: &[u32], options: Options) {
     }
 }
 
-// No discount, or this one.
-fn options_of(given: u32, discount: u32) -> Options {
+// No discount, or this one, and a spacing.
+fn options_of(given: u32, discount: u32, spacing: Spacing) -> Options {
     if given == 0 {
-        return Options::plain();
+        return Options::plain().spaced(spacing);
     }
-    Options::quoted(discount)
+    Options::quoted(discount).spaced(spacing)
+}
+
+// The spacing in three words of a row.
+fn spacing_at(words: &[u32], at: usize) -> Spacing
+    requires { ⌜ at + 2 < length (now words) ⌝ }
+{
+    Spacing::of(words[at], words[at + 1], words[at + 2])
 }
 
 // The calls of a file, one behind the other, each list behind its count of words and what is given.
 fn draw_all(words: &[u32]) {
     let mut at = 0;
     while at < words.len() {
-        if words.len() - at < 3 {
+        if words.len() - at < 6 {
             return;
         }
         let k = words[at] as usize;
-        let options = options_of(words[at + 1], words[at + 2]);
-        let start = at + 3;
+        let spacing = spacing_at(words, at + 3);
+        let options = options_of(words[at + 1], words[at + 2], spacing);
+        let start = at + 6;
         if words.len() - start < k {
             return;
         }

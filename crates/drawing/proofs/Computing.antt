@@ -3,11 +3,12 @@ use Rattle.drawing.specs.Spots.{sameSpot}
 use Rattle.drawing.specs.Lines.{point}
 use Rattle.drawing.specs.Crossing.{between, meetingSpot, runsCross, crossesOver, linesCross}
 use Rattle.drawing.specs.Drawing.{spotOf, routePoints, routeAt, pointsAt, crossPair, crossingsOf, crossings, renumbered}
-use Rattle.drawing.specs.Lengths.{steps, lineLength, cableLengths}
-use Rattle.drawing.specs.Sheet.{partSpotWord, cornerSpotWord, routeWords, routesWords, lengthWords, headSection, partsSection, cablesSection, lengthsSection, quoteSection, sheetWords, quotedWords}
+use Rattle.drawing.specs.Lengths.{steps, lineLength, gridLength, cableLengths}
+use Rattle.drawing.specs.Sheet.{partSpotWord, cornerSpotWord, routeWords, routesWords, lengthWords, headSection, partsSection, cablesSection, lengthsSection, quoteSection, drawingWords, sheetWords, quotedWords}
+use Rattle.drawing.specs.Spacing.{columnAt, rowAt, spacedSpot, spacedRoute, spaced, check13, cornerSpots, coordinates, numbersOf, largest, check14}
 use Rattle.drawing.specs.Reading.{wordSpot, routesIn, drawingIn, behindCables, behindDrawing, lengthsIn, quoteIn}
 use Rattle.prices.proofs.Computing.{prices-computing}
 
 unfoldable pub drawing-computing : Unit {0}
-unfolding prices-computing sameSpot point between meetingSpot runsCross crossesOver linesCross spotOf routePoints routeAt pointsAt crossPair crossingsOf crossings renumbered steps lineLength cableLengths partSpotWord cornerSpotWord routeWords routesWords lengthWords headSection partsSection cablesSection lengthsSection quoteSection sheetWords quotedWords wordSpot routesIn drawingIn behindCables behindDrawing lengthsIn quoteIn
+unfolding prices-computing sameSpot point between meetingSpot runsCross crossesOver linesCross spotOf routePoints routeAt pointsAt crossPair crossingsOf crossings renumbered steps lineLength gridLength cableLengths columnAt rowAt spacedSpot spacedRoute spaced check13 cornerSpots coordinates numbersOf largest check14 partSpotWord cornerSpotWord routeWords routesWords lengthWords headSection partsSection cablesSection lengthsSection quoteSection drawingWords sheetWords quotedWords wordSpot routesIn drawingIn behindCables behindDrawing lengthsIn quoteIn
 drawing-computing = tt

@@ -1,10 +1,16 @@
 -- Laws of drawings: spots and their test (Spots), the test that lines cross (Crossing), an arc for each pair that does (Arcs), the lengths of lines (Lengths)
--- and their words (LengthWords), all words read back (ReadBack, Measured) and counted (WordCounts), other numbers of the parts (Renaming, Renumbered, Sized), what the cables cost behind them (Quoted), and small examples (Worked). Assumes nothing.
+-- and their words (LengthWords), drawings that are spaced (Spaced, SpacedCrossings) and whose numbers fit (Fields), all words read back (ReadBack, Measured) and counted (WordCounts), other numbers of the parts (Renaming,
+-- Renumbered), sizes (Sized), what the cables cost behind them (Quoted), and small examples (Worked). Assumes nothing.
 pub mod Spots
 pub mod Crossing
 pub mod Arcs
 pub mod Lengths
 pub mod LengthWords
+pub mod Inside
+pub mod Pairs
+pub mod Spaced
+pub mod SpacedCrossings
+pub mod Fields
 pub mod ReadBack
 pub mod Measured
 pub mod WordCounts

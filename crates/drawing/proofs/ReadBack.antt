@@ -12,12 +12,9 @@ use Rattle.words.specs.Words.{secondOf, sheetHead, sheetHeadWord, part, sheetCa
 use Rattle.words.proofs.Words.{fields-apart, lineFields-apart}
 use Rattle.drawing.specs.Spots.{Spot, origin}
 use Rattle.drawing.specs.Drawing.{Route, noRoute, Drawing}
-use Rattle.drawing.specs.Sheet.{partSpotWord, cornerSpotWord, routeWords, routesWords, lengthWords, headSection, partsSection, cablesSection, lengthsSection, sheetWords}
-use Rattle.drawing.specs.Lengths.{cableLengths}
-use Rattle.drawing.specs.Reading.{Ends, noEnds, wordSpot, routesIn, drawingIn, behindCables, behindDrawing, lengthsIn, quoteIn}
+use Rattle.drawing.specs.Sheet.{partSpotWord, cornerSpotWord, routeWords, routesWords, headSection, partsSection, cablesSection, drawingWords}
+use Rattle.drawing.specs.Reading.{Ends, noEnds, wordSpot, routesIn, drawingIn, behindCables, behindDrawing}
 use Rattle.drawing.proofs.Spots.{spot-path}
-use Rattle.drawing.proofs.Lengths.{lengths-count}
-use Rattle.drawing.proofs.LengthWords.{LengthsFit, lengthWords-length, lengthWords-fit}
 
 -- Numbers that fit their fields
 
@@ -42,7 +39,6 @@ pub record DrawingFits (n : ℕ) (ends : List Ends) (d : Drawing) : Type 0 where
   pub parts-fit : AllFit (d .parts)
   pub routes-count : length (d .routes) ≡ length ends
   pub routes-fit : (i : ℕ) → i < length ends → RouteFits (getD ends i noEnds) (getD (d .routes) i noRoute)
-  pub lengths-fit : LengthsFit (cableLengths d)
 
 -- Spots
 
@@ -122,13 +118,10 @@ drawing-path d q e f g h = λ i. record { width = e i; height = f i; parts = g i
 -- the head, the words of the parts and of the cables, and all behind them
 sheet-front :
     (d : Drawing) (rest : List ℕ)
-    → sheetWords d ++ rest
-    ≡ sheetHeadWord (d .width) (d .height) ∷ map partSpotWord (d .parts) ++ (routesWords 0 (d .routes) ++ (lengthsSection d ++ rest))
-unfolding sheetWords headSection partsSection cablesSection
+    → drawingWords d ++ rest ≡ sheetHeadWord (d .width) (d .height) ∷ map partSpotWord (d .parts) ++ (routesWords 0 (d .routes) ++ rest)
+unfolding drawingWords headSection partsSection cablesSection
 sheet-front d rest =
-    ap (λ (l : List ℕ). sheetHeadWord (d .width) (d .height) ∷ l)
-    (append-assoc (map partSpotWord (d .parts)) (routesWords 0 (d .routes) ++ lengthsSection d) rest
-    ∙ ap (λ (l : List ℕ). map partSpotWord (d .parts) ++ l) (append-assoc (routesWords 0 (d .routes)) (lengthsSection d) rest))
+    ap (λ (l : List ℕ). sheetHeadWord (d .width) (d .height) ∷ l) (append-assoc (map partSpotWord (d .parts)) (routesWords 0 (d .routes)) rest)
 
 -- the part words, and those behind them
 parts-taken : (l : List Spot) (rest : List ℕ) (n : ℕ) → length l ≡ n → take n (map partSpotWord l ++ rest) ≡ map partSpotWord l
@@ -138,38 +131,26 @@ parts-dropped : (l : List Spot) (w : ℕ) (rest : List ℕ) (n : ℕ) → length
 parts-dropped l w rest n e = let q : 1 + n ≡ suc n = omega arith in rw q (drop-at (map partSpotWord l) rest n (length-map l partSpotWord ∙ e))
 
 module _ (n : ℕ) (ends : List Ends) (d : Drawing) (F : DrawingFits n ends d) where
-  -- a sheet is read the same whatever lies behind its lengths
-  pub read-back : (rest : List ℕ) → drawingIn n ends (sheetWords d ++ rest) ≡ d
+  -- a drawing is read the same whatever lies behind its words
+  pub read-back : (rest : List ℕ) → drawingIn n ends (drawingWords d ++ rest) ≡ d
   unfolding drawingIn
   read-back rest =
       let a = fields-apart sheetHead (d .width) (d .height) (omega arith) (F .width-fits) (F .height-fits) in
-      let behind : List ℕ = routesWords 0 (d .routes) ++ (lengthsSection d ++ rest) in
+      let behind : List ℕ = routesWords 0 (d .routes) ++ rest in
       ap (drawingIn n ends) (sheet-front d rest)
       ∙ drawing-path _ d (a .first-is) (a .second-is)
       (ap (map wordSpot) (parts-taken (d .parts) behind n (F .parts-count)) ∙ spots-back partSpotWord part-back (d .parts) (F .parts-fit))
       (ap (routesIn ends) (parts-dropped (d .parts) (sheetHeadWord (d .width) (d .height)) behind n (F .parts-count))
-      ∙ routes-back ends (d .routes) 0 (lengthsSection d ++ rest) (F .routes-count) (F .routes-fit))
+      ∙ routes-back ends (d .routes) 0 rest (F .routes-count) (F .routes-fit))
 
-  behind-back : (rest : List ℕ) → behindDrawing n (length (d .routes)) (sheetWords d ++ rest) ≡ lengthsSection d ++ rest
+  -- and so is what lies there
+  pub behind-back : (rest : List ℕ) → behindDrawing n (length (d .routes)) (drawingWords d ++ rest) ≡ rest
   unfolding behindDrawing
   behind-back rest =
       ap (behindDrawing n (length (d .routes))) (sheet-front d rest)
       ∙ ap (behindCables (length (d .routes)))
-      (parts-dropped (d .parts) (sheetHeadWord (d .width) (d .height)) (routesWords 0 (d .routes) ++ (lengthsSection d ++ rest)) n (F .parts-count))
-      ∙ routes-behind ends (d .routes) 0 (lengthsSection d ++ rest) (F .routes-count) (F .routes-fit)
-
-  count-lengths : length (lengthsSection d) ≡ length (d .routes) + 1
-  unfolding lengthsSection
-  count-lengths = omega (arith, lengthWords-length (cableLengths d), lengths-count d)
-
-  -- and so are the lengths, and what lies behind them
-  pub lengths-back : (rest : List ℕ) → lengthsIn n (length (d .routes)) (sheetWords d ++ rest) ≡ lengthsSection d
-  unfolding lengthsIn
-  lengths-back rest = ap (take (length (d .routes) + 1)) (behind-back rest) ∙ take-at (lengthsSection d) rest (length (d .routes) + 1) count-lengths
-
-  pub quote-back : (rest : List ℕ) → quoteIn n (length (d .routes)) (sheetWords d ++ rest) ≡ rest
-  unfolding quoteIn
-  quote-back rest = ap (drop (length (d .routes) + 1)) (behind-back rest) ∙ drop-at (lengthsSection d) rest (length (d .routes) + 1) count-lengths
+      (parts-dropped (d .parts) (sheetHeadWord (d .width) (d .height)) (routesWords 0 (d .routes) ++ rest) n (F .parts-count))
+      ∙ routes-behind ends (d .routes) 0 rest (F .routes-count) (F .routes-fit)
 
 -- 'List and sheet are rows of 32-bit words.'
 
@@ -219,23 +200,14 @@ routes-words-fit (c ∷ cs) (r ∷ rs) line e h f w m =
 
 pub words-fit :
     (n : ℕ) (ends : List Ends) (d : Drawing) → DrawingFits n ends d → length ends ≤ 65536
-    → (w : ℕ) → List·Memᴰ w (sheetWords d) → w < 2 ^ 32
-unfolding sheetWords headSection partsSection cablesSection lengthsSection
+    → (w : ℕ) → List·Memᴰ w (drawingWords d) → w < 2 ^ 32
+unfolding drawingWords headSection partsSection cablesSection
 words-fit n ends d f h w m = go (List·Memᴰ·cases-cons m)
   where
-    tail : List·Memᴰ w (routesWords 0 (d .routes)) ⊎ List·Memᴰ w (lengthWords (cableLengths d)) → w < 2 ^ 32
-    tail (inl k) = routes-words-fit ends (d .routes) 0 (f .routes-count) (omega arith) (f .routes-fit) w k
-    tail (inr k) = lengthWords-fit (cableLengths d) (f .lengths-fit) (omega (arith, lengths-count d, f .routes-count)) w k
-
-    body :
-        List·Memᴰ w (map partSpotWord (d .parts)) ⊎ List·Memᴰ w (routesWords 0 (d .routes) ++ lengthWords (cableLengths d))
-        → w < 2 ^ 32
+    body : List·Memᴰ w (map partSpotWord (d .parts)) ⊎ List·Memᴰ w (routesWords 0 (d .routes)) → w < 2 ^ 32
     body (inl k) = spot-words-fit partSpotWord part-word-fits (d .parts) (f .parts-fit) w k
-    body (inr k) = tail (List·Memᴰ·append-cases (routesWords 0 (d .routes)) k)
+    body (inr k) = routes-words-fit ends (d .routes) 0 (f .routes-count) (omega arith) (f .routes-fit) w k
 
-    go :
-        (w ≡ sheetHeadWord (d .width) (d .height))
-        ⊎ List·Memᴰ w (map partSpotWord (d .parts) ++ (routesWords 0 (d .routes) ++ lengthWords (cableLengths d)))
-        → w < 2 ^ 32
+    go : (w ≡ sheetHeadWord (d .width) (d .height)) ⊎ List·Memᴰ w (map partSpotWord (d .parts) ++ routesWords 0 (d .routes)) → w < 2 ^ 32
     go (inl e) = omega (arith, fields-apart sheetHead (d .width) (d .height) (omega arith) (f .width-fits) (f .height-fits) .fits)
     go (inr k) = body (List·Memᴰ·append-cases (map partSpotWord (d .parts)) k)

@@ -1,15 +1,13 @@
 -- A drawing with other numbers of its parts: the same spots, lines, lengths, meetings, crossings and counts. Assumes nothing.
-use Prim.Native.Nat.{ℕ, _+_, _<_}
+use Prim.Native.Nat.{ℕ, _<_}
 use native.Mathlib.Omega.{arith}
-use mathlib.Core.Path.{_≡_, refl, sym, ap, ap₂, subst, subst₂, _∙_}
-use mathlib.Core.List.{List, [], _∷_, _++_, map, map-map, List·Memᴰ, List·Memᴰ·head, List·Memᴰ·tail}
+use mathlib.Core.Path.{_≡_, refl, sym, ap, ap₂, subst₂, _∙_}
+use mathlib.Core.List.{List, [], _∷_, _++_, map, map-map}
 use lib.ListN.{length, getD, length-map}
 use Rattle.lists.specs.Select.{tabulate, sum, indexOf}
 use Rattle.lists.proofs.Select.{getD-map, length-tabulate, getD-tabulate}
 use Rattle.lists.proofs.Agree.{tabulate-same}
-use Rattle.lists.proofs.Places.{mem-place}
-use Rattle.lists.proofs.Maps.{count-map}
-use Rattle.lists.proofs.Filters.{count-same}
+use Rattle.drawing.specs.declared.spacing.Spacing.{Spacing}
 use Rattle.drawing.specs.Spots.{Spot, origin}
 use Rattle.drawing.specs.Lines.{Meetings}
 use Rattle.drawing.specs.Crossing.{linesCross}
@@ -20,6 +18,8 @@ use Rattle.drawing.specs.Sheet.{sheetWords}
 use Rattle.drawing.specs.Counts.{cornerCount}
 use Rattle.drawing.proofs.WordCounts.{words-length}
 use Rattle.drawing.proofs.Renaming.{Renames, renamed}
+use Rattle.drawing.proofs.Inside.{Inside, inside-at, ends-inside}
+use Rattle.drawing.proofs.Pairs.{pairs-same}
 
 -- Below n each number is the name of one place below n.
 pub record Names (n : ℕ) (names : List ℕ) : Type 0 where
@@ -27,24 +27,6 @@ pub record Names (n : ℕ) (names : List ℕ) : Type 0 where
   pub back : (p : ℕ) → p < n → getD names (indexOf p names) 0 ≡ p
   pub named : (k : ℕ) → k < n → getD names k 0 < n
   pub place : (k : ℕ) → k < n → indexOf (getD names k 0) names ≡ k
-
--- a route between two of n parts
-pub record Inside (n : ℕ) (r : Route) : Type 0 where
-  pub first-inside : r .first < n
-  pub last-inside : r .last < n
-
-abbrev pub EndsInside : Drawing → Type 0
-EndsInside d = (r : Route) → List·Memᴰ r (d .routes) → Inside (length (d .parts)) r
-
-module _ (d : Drawing) (M : Meets d) where
-  pub inside-at : (i : ℕ) → i < length (d .routes) → Inside (length (d .parts)) (routeAt d i)
-  inside-at i h = let p = M .parts i h in record { first-inside = p .0; last-inside = p .1 }
-
-  pub ends-inside : EndsInside d
-  unfolding routeAt
-  ends-inside r m =
-      let t = mem-place (d .routes) noRoute m in
-      subst (λ (q : Route). Inside (length (d .parts)) q) (t .2) (inside-at (t .0) (t .1))
 
 module _ (names : List ℕ) where
   -- a route whose parts are numbered by their names
@@ -93,9 +75,9 @@ module _ (names : List ℕ) where
     pub corner-count-renumbered : cornerCount (renumbered names d .routes) ≡ cornerCount (d .routes)
     corner-count-renumbered = ap sum (map-renumbered (λ (l : List Spot). length l))
 
-    pub length-renumbered : length (sheetWords (renumbered names d)) ≡ length (sheetWords d)
-    length-renumbered =
-        omega (arith, words-length (renumbered names d), words-length d, parts-renumbered, routes-renumbered, corner-count-renumbered)
+    pub length-renumbered : (s : Spacing) → length (sheetWords s (renumbered names d)) ≡ length (sheetWords s d)
+    length-renumbered s =
+        omega (arith, words-length s (renumbered names d), words-length s d, parts-renumbered, routes-renumbered, corner-count-renumbered)
 
     -- What is kept where no two parts have one name
 
@@ -154,17 +136,8 @@ module _ (names : List ℕ) where
       unfolding crossPair
       same-pair r q I J = ap₂ linesCross (called-points r I) (called-points q J)
 
-      same-crossings :
-          (rs : List Route) → ((r : Route) → List·Memᴰ r rs → Inside (length (d .parts)) r)
-          → crossingsOf (renumbered names d) (map called rs) ≡ crossingsOf d rs
-      unfolding crossingsOf
-      same-crossings [] I = refl
-      same-crossings (r ∷ rs) I =
-          ap₂ (λ (a b : ℕ). a + b)
-          (count-map (crossPair (renumbered names d) (called r)) called rs
-          ∙ count-same _ _ rs (λ q m. same-pair r q (I r (List·Memᴰ·head refl)) (I q (List·Memᴰ·tail m))))
-          (same-crossings rs (λ q m. I q (List·Memᴰ·tail m)))
-
       pub crossings-renumbered : Meets d → crossings (renumbered names d) ≡ crossings d
       unfolding crossings
-      crossings-renumbered M = ap (crossingsOf (renumbered names d)) routes-called ∙ same-crossings (d .routes) (ends-inside d M)
+      crossings-renumbered M =
+          ap (crossingsOf (renumbered names d)) routes-called
+          ∙ pairs-same d (renumbered names d) called (Inside (length (d .parts))) same-pair (d .routes) (ends-inside d M)

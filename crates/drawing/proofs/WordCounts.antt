@@ -1,4 +1,4 @@
--- How many words a drawing has, section by section, and how many of them are corners. Assumes nothing.
+-- How many words a drawing has in any spacing, section by section, and how many of them are corners. Assumes nothing.
 use Prim.Native.Nat.{ℕ, suc, _+_, _*_, _<_, _≤_}
 use native.Mathlib.Omega.{arith}
 use mathlib.Core.Path.{_≡_, refl, sym, ap, _∙_}
@@ -11,15 +11,18 @@ use Rattle.lists.proofs.Maps.{count-tabulate}
 use Rattle.lists.proofs.Sums.{count-append, count-none as count-range-none}
 use Rattle.words.specs.Words.{kindOf, sheetHead, sheetHeadWord, part, sheetCable, sheetCableWord, corner, cableLength, cableLengthWord, totalLength, totalLengthWord}
 use Rattle.words.proofs.Words.{fields-apart, lineFields-apart, wideField-apart}
+use Rattle.drawing.specs.declared.spacing.Spacing.{Spacing}
 use Rattle.drawing.specs.Spots.{Spot}
 use Rattle.drawing.specs.Drawing.{Route, noRoute, Drawing}
-use Rattle.drawing.specs.Sheet.{partSpotWord, cornerSpotWord, routeWords, routesWords, lengthWords, headSection, partsSection, cablesSection, lengthsSection, sheetWords}
+use Rattle.drawing.specs.Sheet.{partSpotWord, cornerSpotWord, routeWords, routesWords, lengthWords, headSection, partsSection, cablesSection, lengthsSection, drawingWords, sheetWords}
+use Rattle.drawing.specs.Spacing.{spaced}
 use Rattle.drawing.specs.Lengths.{cableLengths}
 use Rattle.drawing.specs.Reading.{Ends, noEnds}
 use Rattle.drawing.specs.Counts.{cornerCount, isCorner}
 use Rattle.drawing.proofs.Lengths.{lengths-count}
 use Rattle.drawing.proofs.LengthWords.{LengthsFit, records, record-fields, lengthWords-length}
 use Rattle.drawing.proofs.ReadBack.{SpotFits, AllFit, RouteFits, DrawingFits}
+use Rattle.drawing.proofs.Spaced.{parts-spaced, routes-spaced, corner-count-spaced}
 
 -- The length
 
@@ -49,20 +52,29 @@ pub lengths-length : (d : Drawing) → length (lengthsSection d) ≡ length (d .
 unfolding lengthsSection
 lengths-length d = omega (arith, lengthWords-length (cableLengths d), lengths-count d)
 
-pub section-lengths : (d : Drawing) → length (sheetWords d) ≡ 1 + length (d .parts) + length (cablesSection d) + length (lengthsSection d)
-unfolding sheetWords
-section-lengths d =
+pub drawing-length : (d : Drawing) → length (drawingWords d) ≡ 1 + length (d .parts) + length (cablesSection d)
+unfolding drawingWords
+drawing-length d =
     omega (
       arith,
-      length-append (headSection d) (partsSection d ++ (cablesSection d ++ lengthsSection d)),
-      length-append (partsSection d) (cablesSection d ++ lengthsSection d),
-      length-append (cablesSection d) (lengthsSection d),
+      length-append (headSection d) (partsSection d ++ cablesSection d),
+      length-append (partsSection d) (cablesSection d),
       head-length d,
       parts-length d,
     )
 
-pub words-length : (d : Drawing) → length (sheetWords d) ≡ 2 + length (d .parts) + 2 * length (d .routes) + cornerCount (d .routes)
-words-length d = omega (arith, section-lengths d, cables-length d, lengths-length d)
+module _ (s : Spacing) (d : Drawing) where
+  pub section-lengths :
+      length (sheetWords s d) ≡ 1 + length (d .parts) + length (cablesSection (spaced s d)) + length (lengthsSection d)
+  unfolding sheetWords
+  section-lengths = omega (arith, length-append (drawingWords (spaced s d)) (lengthsSection d), drawing-length (spaced s d), parts-spaced s d)
+
+  corners-kept : cornerCount (spaced s d .routes) ≡ cornerCount (d .routes)
+  unfolding spaced
+  corners-kept = corner-count-spaced s (d .routes)
+
+  pub words-length : length (sheetWords s d) ≡ 2 + length (d .parts) + 2 * length (d .routes) + cornerCount (d .routes)
+  words-length = omega (arith, section-lengths, cables-length (spaced s d), lengths-length d, routes-spaced s d, corners-kept)
 
 -- The corners
 
@@ -150,20 +162,31 @@ module _ (n : ℕ) (ends : List Ends) (d : Drawing) (F : DrawingFits n ends d) w
   unfolding cablesSection
   cables-corners h = routes-corners ends (d .routes) 0 (F .routes-count) (omega arith) (F .routes-fit)
 
-  pub lengths-corners : length ends ≤ 65536 → count isCorner (lengthsSection d) ≡ 0
-  unfolding lengthsSection
-  lengths-corners h = lengthWords-corners (cableLengths d) (F .lengths-fit) (omega (arith, lengths-count d, F .routes-count))
+  drawing-corners : length ends ≤ 65536 → count isCorner (drawingWords d) ≡ cornerCount (d .routes)
+  unfolding drawingWords
+  drawing-corners h =
+      omega (
+        arith,
+        count-append isCorner (headSection d) (partsSection d ++ cablesSection d),
+        count-append isCorner (partsSection d) (cablesSection d),
+        head-corners,
+        parts-corners,
+        cables-corners h,
+      )
 
-  pub words-corners : length ends ≤ 65536 → count isCorner (sheetWords d) ≡ cornerCount (d .routes)
+-- of a sheet, whose numbers fit as they are spaced
+module _ (s : Spacing) (n : ℕ) (ends : List Ends) (d : Drawing) (F : DrawingFits n ends (spaced s d)) (L : LengthsFit (cableLengths d)) where
+  lengths-corners : length ends ≤ 65536 → count isCorner (lengthsSection d) ≡ 0
+  unfolding lengthsSection
+  lengths-corners h = lengthWords-corners (cableLengths d) L (omega (arith, lengths-count d, routes-spaced s d, F .routes-count))
+
+  pub words-corners : length ends ≤ 65536 → count isCorner (sheetWords s d) ≡ cornerCount (d .routes)
   unfolding sheetWords
   words-corners h =
       omega (
         arith,
-        count-append isCorner (headSection d) (partsSection d ++ (cablesSection d ++ lengthsSection d)),
-        count-append isCorner (partsSection d) (cablesSection d ++ lengthsSection d),
-        count-append isCorner (cablesSection d) (lengthsSection d),
-        head-corners,
-        parts-corners,
-        cables-corners h,
+        count-append isCorner (drawingWords (spaced s d)) (lengthsSection d),
+        drawing-corners n ends (spaced s d) F h,
+        corners-kept s d,
         lengths-corners h,
       )

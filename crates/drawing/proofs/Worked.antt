@@ -5,6 +5,7 @@ use mathlib.Core.List.{List, [], _∷_, _++_}
 use Rattle.drawing.specs.Spots.{Spot, spotAt}
 use Rattle.drawing.specs.Drawing.{Route, Drawing, crossings}
 use Rattle.prices.specs.declared.Discount.the-variants.{NotGiven, Given}
+use Rattle.drawing.specs.Spacing.{onGrid}
 use Rattle.drawing.specs.Sheet.{sheetWords, quotedWords}
 use Rattle.drawing.specs.Reading.{Ends, drawingIn, lengthsIn, quoteIn}
 use Rattle.drawing.proofs.Computing.{drawing-computing}
@@ -46,13 +47,13 @@ abbrev over : Route → Drawing
 over r = record { width = 2; height = 2; parts = spotAt 0 1 ∷ spotAt 2 1 ∷ spotAt 1 0 ∷ spotAt 1 2 ∷ []; routes = route 0 1 [] ∷ r ∷ [] }
 
 record Worked : Type 0 where
-  triangle-words : sheetWords triangle ≡ thirteen
+  triangle-words : sheetWords onGrid triangle ≡ thirteen
   triangle-read : drawingIn 3 (ends 0 1 ∷ ends 1 2 ∷ ends 0 2 ∷ []) thirteen ≡ triangle
   triangle-lengths : lengthsIn 3 3 thirteen ≡ 0x80000001 ∷ 0x80001001 ∷ 0x80002004 ∷ 0xa0000006 ∷ []
   -- 2026-05: 'after the run lengths', with a discount of 5 in 10,000
-  triangle-quoted : quotedWords (Given 5) triangle ≡ thirteen ++ 970 ∷ 970 ∷ 1039 ∷ 2979 ∷ []
-  triangle-plain : quotedWords NotGiven triangle ≡ thirteen
-  quote-read : quoteIn 3 3 (quotedWords (Given 5) triangle) ≡ 970 ∷ 970 ∷ 1039 ∷ 2979 ∷ []
+  triangle-quoted : quotedWords onGrid (Given 5) triangle ≡ thirteen ++ 970 ∷ 970 ∷ 1039 ∷ 2979 ∷ []
+  triangle-plain : quotedWords onGrid NotGiven triangle ≡ thirteen
+  quote-read : quoteIn 3 3 (quotedWords onGrid (Given 5) triangle) ≡ 970 ∷ 970 ∷ 1039 ∷ 2979 ∷ []
   -- 2026-02: 'all pairs of cables whose lines cross, those that share a part too'
   crossed : crossings (over (route 2 3 [])) ≡ 1
   -- this one ends at part 0, from above

@@ -1,8 +1,9 @@
--- Request 2026-01: how long the cables' lines are. Assumes nothing.
-use Prim.Native.Nat.{ℕ, _+_, _*_, _-_, min, max}
+-- Request 2026-01: how long the cables' lines are; 2026-06: and what that is on a sheet that is spaced. Assumes nothing.
+use Prim.Native.Nat.{ℕ, _+_, _*_, _-_, _/_, min, max}
 use mathlib.Core.List.{List, [], _∷_}
 use lib.ListN.{length}
 use Rattle.lists.specs.Select.{tabulate}
+use Rattle.drawing.specs.declared.spacing.Spacing.{Spacing}
 use Rattle.drawing.specs.Spots.{Spot}
 use Rattle.drawing.specs.Drawing.{Drawing, pointsAt}
 
@@ -19,6 +20,15 @@ unfoldable pub lineLength : List Spot → ℕ
 lineLength [] = 0
 lineLength (p ∷ []) = 0
 lineLength (p ∷ q ∷ r) = distance p q + lineLength (q ∷ r)
+
+-- 2026-06: 'Run lengths .. still count grid steps', on a spaced sheet: steps in x divided by the column pitch, and steps in y divided by the row pitch
+abbrev pub gridDistance : Spacing → Spot → Spot → ℕ
+gridDistance s p q = steps (p .x) (q .x) / s .«column_pitch» + steps (p .y) (q .y) / s .«row_pitch»
+
+unfoldable pub gridLength : Spacing → List Spot → ℕ
+gridLength s [] = 0
+gridLength s (p ∷ []) = 0
+gridLength s (p ∷ q ∷ r) = gridDistance s p q + gridLength s (q ∷ r)
 
 -- 'run lengths': of each cable's line, by line
 unfoldable pub cableLengths : Drawing → List ℕ

@@ -1,5 +1,6 @@
 -- Document 01: 'A sheet is its head, the parts by number, then the cables by line, each followed by its corners from the lower-ranked end upward.'
--- Request 2026-01: behind them the lengths of the cables; 2026-05: and behind those what the cables cost. The words of a drawing, section by section. Assumes nothing.
+-- Request 2026-01: behind them the lengths of the cables; 2026-05: and behind those what the cables cost; 2026-06: all spaced, with the grid's lengths. The words of a drawing, section by section.
+-- Assumes nothing.
 use Prim.Native.Nat.{ℕ, _+_}
 use mathlib.Core.List.{List, [], _∷_, _++_, map}
 use lib.ListN.{length, getD}
@@ -8,9 +9,11 @@ use Rattle.words.specs.Words.{sheetHeadWord, partWord, sheetCableWord, cornerWo
 use Rattle.prices.specs.declared.Discount.{Discount}
 use Rattle.prices.specs.declared.Discount.the-variants.{NotGiven, Given}
 use Rattle.prices.specs.Quote.{quoteWords}
+use Rattle.drawing.specs.declared.spacing.Spacing.{Spacing}
 use Rattle.drawing.specs.Spots.{Spot}
 use Rattle.drawing.specs.Drawing.{Route, Drawing}
 use Rattle.drawing.specs.Lengths.{cableLengths}
+use Rattle.drawing.specs.Spacing.{spaced}
 
 unfoldable pub partSpotWord : Spot → ℕ
 partSpotWord p = partWord (p .x) (p .y)
@@ -50,10 +53,14 @@ unfoldable pub quoteSection : Discount → Drawing → List ℕ
 quoteSection NotGiven d = []
 quoteSection (Given discount) d = quoteWords discount (cableLengths d)
 
--- the sections of a sheet, in their sequence, up to the lengths: all that a drawing alone says
-unfoldable pub sheetWords : Drawing → List ℕ
-sheetWords d = headSection d ++ (partsSection d ++ (cablesSection d ++ lengthsSection d))
+-- the words that show a drawing: head, parts, and cables with their corners
+unfoldable pub drawingWords : Drawing → List ℕ
+drawingWords d = headSection d ++ (partsSection d ++ cablesSection d)
 
--- 2026-05: and the bill, 'after the run lengths'
-unfoldable pub quotedWords : Discount → Drawing → List ℕ
-quotedWords discount d = sheetWords d ++ quoteSection discount d
+-- 2026-06: the words of the grid's drawing as it is spaced; 'Run lengths .. still count grid steps'
+unfoldable pub sheetWords : Spacing → Drawing → List ℕ
+sheetWords spacing d = drawingWords (spaced spacing d) ++ lengthsSection d
+
+-- 2026-05: and the bill, 'after the run lengths', which still counts grid steps too
+unfoldable pub quotedWords : Spacing → Discount → Drawing → List ℕ
+quotedWords spacing discount d = sheetWords spacing d ++ quoteSection discount d

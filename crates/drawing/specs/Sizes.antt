@@ -1,23 +1,28 @@
--- What demand 3 says of sizes: of a drawing of n parts and m cables, and of its words. Assumes nothing.
-use Prim.Native.Nat.{ℕ, _+_, _<_, _≤_}
+-- What demand 3 says of sizes, and request 2026-06 of a sheet's head: of the grid's drawing of n parts and m cables, of the drawing on the sheet, and of
+-- its words. Assumes nothing.
+use Prim.Native.Nat.{ℕ, _+_, _*_, _<_, _≤_}
 use mathlib.Core.Path.{_≡_}
 use mathlib.Core.List.{List}
 use lib.ListN.{length}
 use Rattle.lists.specs.Select.{count}
+use Rattle.drawing.specs.declared.spacing.Spacing.{Spacing}
 use Rattle.drawing.specs.Lines.{point}
 use Rattle.drawing.specs.Drawing.{Drawing, spotOf, routeAt, pointsAt}
 use Rattle.drawing.specs.Counts.{isCorner}
 
-pub record Sizes (n m : ℕ) (d : Drawing) (sheet : List ℕ) : Type 0 where
-  -- 'Width and height are the greatest x and y.'
-  pub x-most : (i k : ℕ) → i < m → k < length (pointsAt d i) → point (pointsAt d i) k .x ≤ d .width
-  pub x-reached : (i : ℕ) × (k : ℕ) × (i < m) × (k < length (pointsAt d i)) × (point (pointsAt d i) k .x ≡ d .width)
-  pub y-most : (i k : ℕ) → i < m → k < length (pointsAt d i) → point (pointsAt d i) k .y ≤ d .height
-  pub y-reached : (i : ℕ) × (k : ℕ) × (i < m) × (k < length (pointsAt d i)) × (point (pointsAt d i) k .y ≡ d .height)
-  pub parts-within : (p : ℕ) → p < n → (spotOf d p .x ≤ d .width) × (spotOf d p .y ≤ d .height)
+pub record Sizes (spacing : Spacing) (n m : ℕ) (grid d : Drawing) (sheet : List ℕ) : Type 0 where
+  -- 'Width and height are the greatest x and y.' 2026-06: 'The head carries the greatest x plus the margin, and the greatest y plus the margin.'
+  pub x-most : (i k : ℕ) → i < m → k < length (pointsAt d i) → point (pointsAt d i) k .x + spacing .margin ≤ d .width
+  pub x-reached : (i : ℕ) × (k : ℕ) × (i < m) × (k < length (pointsAt d i)) × (point (pointsAt d i) k .x + spacing .margin ≡ d .width)
+  pub y-most : (i k : ℕ) → i < m → k < length (pointsAt d i) → point (pointsAt d i) k .y + spacing .margin ≤ d .height
+  pub y-reached : (i : ℕ) × (k : ℕ) × (i < m) × (k < length (pointsAt d i)) × (point (pointsAt d i) k .y + spacing .margin ≡ d .height)
+  pub parts-within : (p : ℕ) → p < n → (spotOf d p .x + spacing .margin ≤ d .width) × (spotOf d p .y + spacing .margin ≤ d .height)
+  -- 'the width and height bounds are the grid's': the head is twice the margin, and the pitch times the grid's width or height
+  pub head-width : d .width ≡ 2 * spacing .margin + spacing .«column_pitch» * grid .width
+  pub head-height : d .height ≡ 2 * spacing .margin + spacing .«row_pitch» * grid .height
   -- 'the sheet is exactly m - n + 1 wide, at most n + 1 high'
-  pub width : d .width + n ≡ m + 1
-  pub height : d .height ≤ n + 1
+  pub width : grid .width + n ≡ m + 1
+  pub height : grid .height ≤ n + 1
   -- 'has at most 2m - 2n + 4 corners'
   pub corners : count isCorner sheet + (n + n) ≤ m + m + 4
   -- 2026-04, in place of 'at most two cables have more than two': 'no cable has more than two corners'

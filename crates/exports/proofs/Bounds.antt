@@ -1,5 +1,5 @@
--- Bounds of an answer: a refusal's number is 1 to 12; 12 comes where the discount's own check applies, and 11 only where the output has fewer than `mostWordsFor` words, which no sheet
--- exceeds. Assumes nothing.
+-- Bounds of an answer: a refusal's number is 1 to 14; 12, 13 and 14 come where the check of the discount, of the spacing and of the drawing as it is spaced applies, and 11 only where the output
+-- has fewer than `mostWordsFor` words, which no sheet exceeds. Assumes nothing.
 use Prim.Native.Nat.{ℕ, _<_, _≤_}
 use mathlib.Core.Path.{_≡_, refl, sym, _∙_, subst}
 use mathlib.Core.Bool.{Bool, true, false, cond}
@@ -20,12 +20,13 @@ use Rattle.station.specs.Checks.{Check, firstRefusal, Clear}
 use Rattle.station.proofs.FirstRefusal.{refused-number}
 use Rattle.order.specs.Checks.{allChecks}
 use Rattle.order.proofs.Computing.{order-computing}
-use Rattle.drawing.specs.Drawing.{crossings}
+use Rattle.drawing.specs.Drawing.{Drawing, crossings}
+use Rattle.drawing.specs.Spacing.{spaced, check13, check14}
 use Rattle.hookup.specs.declared.Options.{Options}
-use Rattle.hookup.specs.Checks.{callChecks}
+use Rattle.hookup.specs.Checks.{givenChecks, callChecks}
 use Rattle.hookup.specs.Drawing.{drawing}
 use Rattle.hookup.specs.Outcome.{Outcome, drawn, sentBack, fitted, orDrawn, outcome}
-use Rattle.hookup.proofs.CallChecks.{refused-12, list-decides, list-clear}
+use Rattle.hookup.proofs.CallChecks.{refused-12, refused-13, list-decides, given-refused, refused-14, call-clear, list-clear}
 use Rattle.hookup.proofs.Drawn.{mostWordsFor}
 use Rattle.hookup.proofs.Demand3.{sheetOf, words-most}
 
@@ -43,33 +44,75 @@ verdict-between list e =
 -- All checks
 
 -- what a refusal's number tells
-pub record Refusal (options : Options) (room check place : ℕ) : Type 0 where
+pub record Refusal (options : Options) (list : List ℕ) (room check place : ℕ) : Type 0 where
   pub least : 1 ≤ check
-  pub most : check ≤ 12
+  pub most : check ≤ 14
   pub eleven : check ≡ 11 → room < mostWordsFor (options .discount)
   pub twelve : check ≡ 12 → check12 (options .discount) ≡ At place
+  pub thirteen : check ≡ 13 → check13 (options .spacing) ≡ At place
+  pub fourteen : check ≡ 14 → Clear allChecks list × (check14 (spaced (options .spacing) (drawing (stationOf list))) ≡ At place)
 
 -- a sheet fits the output, and `mostWordsFor`
-abbrev Bounded : Options → ℕ → Outcome → Type 0
-Bounded options room (drawn words x) = (length words ≤ room) × (length words ≤ mostWordsFor (options .discount))
-Bounded options room (sentBack check place) = Refusal options room check place
+abbrev Bounded : Options → List ℕ → ℕ → Outcome → Type 0
+Bounded options list room (drawn words x) = (length words ≤ room) × (length words ≤ mostWordsFor (options .discount))
+Bounded options list room (sentBack check place) = Refusal options list room check place
 
 module _ (options : Options) (list : List ℕ) (room : ℕ) where
-  refused-bounded : {check place : ℕ} → firstRefusal (callChecks options) list ≡ Refused check place → Refusal options room check place
-  refused-bounded {check} {place} e = go (check12 (options .discount)) refl
+  -- by the first check that applies: 12, 13, one of 1 to 10, or 14
+  refused-bounded : {check place : ℕ} → firstRefusal (callChecks options) list ≡ Refused check place → Refusal options list room check place
+  refused-bounded {check} {place} e = of-discount (check12 (options .discount)) refl
     where
-      go : (f : Found) → check12 (options .discount) ≡ f → Refusal options room check place
-      go (At p) f =
-          let g = sym (refused-12 options list p f) ∙ e in
+      d : Drawing
+      d = spaced (options .spacing) (drawing (stationOf list))
+
+      -- by what its number tells, where that is 12, 13 or 14
+      beyond-11 :
+          11 < check → check ≤ 14 → (check ≡ 12 → check12 (options .discount) ≡ At place) → (check ≡ 13 → check13 (options .spacing) ≡ At place)
+          → (check ≡ 14 → Clear allChecks list × (check14 d ≡ At place)) → Refusal options list room check place
+      beyond-11 l m a b c =
+          record { least = omega arith; most = m; eleven = λ h. absurd (omega arith); twelve = a; thirteen = b; fourteen = c }
+
+      of-drawing : Clear (givenChecks options) list → (f : Found) → check14 d ≡ f → Refusal options list room check place
+      of-drawing pass (At p) f =
+          let g = sym (refused-14 options list pass p f) ∙ e in
+          let c : 14 ≡ check = cc in
+          let q : p ≡ place = cc in
+          beyond-11 (omega arith) (omega arith) (λ h. absurd (omega arith)) (λ h. absurd (omega arith)) (λ h. (list-clear options list pass, cc))
+      of-drawing pass Nothing f = let g = sym (call-clear options list pass f) ∙ e in let z : _≡_ {A = ℕ} 0 1 = cc in absurd (omega arith)
+
+      of-list : firstRefusal (givenChecks options) list ≡ firstRefusal allChecks list → (v : Verdict) → firstRefusal allChecks list ≡ v → Refusal options list room check place
+      of-list decided Passed f = of-drawing (decided ∙ f) (check14 d) refl
+      of-list decided (Refused n p) f =
+          let g = sym (given-refused options list n p (decided ∙ f)) ∙ e in
+          let c : n ≡ check = cc in
+          let b = verdict-between list f in
+          record {
+            least = omega (arith, b .0);
+            most = omega (arith, b .1);
+            eleven = λ h. absurd (omega (arith, b .1));
+            twelve = λ h. absurd (omega (arith, b .1));
+            thirteen = λ h. absurd (omega (arith, b .1));
+            fourteen = λ h. absurd (omega (arith, b .1));
+          }
+
+      of-spacing : check12 (options .discount) ≡ Nothing → (f : Found) → check13 (options .spacing) ≡ f → Refusal options list room check place
+      of-spacing none (At p) f =
+          let g = sym (given-refused options list 13 p (refused-13 options list none p f)) ∙ e in
+          let c : 13 ≡ check = cc in
+          let q : p ≡ place = cc in
+          beyond-11 (omega arith) (omega arith) (λ h. absurd (omega arith)) (λ h. cc) (λ h. absurd (omega arith))
+      of-spacing none Nothing f = of-list (list-decides options list none f) (firstRefusal allChecks list) refl
+
+      of-discount : (f : Found) → check12 (options .discount) ≡ f → Refusal options list room check place
+      of-discount (At p) f =
+          let g = sym (given-refused options list 12 p (refused-12 options list p f)) ∙ e in
           let c : 12 ≡ check = cc in
           let q : p ≡ place = cc in
-          record { least = omega arith; most = omega arith; eleven = λ h. absurd (omega arith); twelve = λ h. cc }
-      go Nothing f =
-          let b = verdict-between list (sym (list-decides options list f) ∙ e) in
-          record { least = b .0; most = omega (arith, b .1); eleven = λ h. absurd (omega (arith, b .1)); twelve = λ h. absurd (omega (arith, b .1)) }
+          beyond-11 (omega arith) (omega arith) (λ h. cc) (λ h. absurd (omega arith)) (λ h. absurd (omega arith))
+      of-discount Nothing f = of-spacing f (check13 (options .spacing)) refl
 
   -- the sheet of a list that passes them
-  fitted-bounded : Clear (callChecks options) list → Bounded options room (fitted options (drawing (stationOf list)) room)
+  fitted-bounded : Clear (callChecks options) list → Bounded options list room (fitted options (drawing (stationOf list)) room)
   unfolding fitted
   fitted-bounded pass = go (ltb room (length words)) refl
     where
@@ -77,25 +120,32 @@ module _ (options : Options) (list : List ℕ) (room : ℕ) where
       words = sheetOf options list
 
       most : length words ≤ mostWordsFor (options .discount)
-      most = words-most options list (list-clear options list pass)
+      most = words-most options list pass
 
-      go : (b : Bool) → ltb room (length words) ≡ b → Bounded options room (cond b (sentBack 11 (length words)) (drawn words (crossings (drawing (stationOf list)))))
+      go : (b : Bool) → ltb room (length words) ≡ b → Bounded options list room (cond b (sentBack 11 (length words)) (drawn words (crossings (drawing (stationOf list)))))
       go true t =
-          record { least = omega arith; most = omega arith; eleven = λ h. omega (arith, ltb-true room (length words) t, most); twelve = λ h. absurd (omega arith) }
+          record {
+            least = omega arith;
+            most = omega arith;
+            eleven = λ h. omega (arith, ltb-true room (length words) t, most);
+            twelve = λ h. absurd (omega arith);
+            thirteen = λ h. absurd (omega arith);
+            fourteen = λ h. absurd (omega arith);
+          }
       go false t = (ltb-false room (length words) t, most)
 
-  outcome-bounded : Bounded options room (outcome options list room)
+  outcome-bounded : Bounded options list room (outcome options list room)
   unfolding outcome orDrawn
   outcome-bounded = go (firstRefusal (callChecks options) list) refl
     where
-      go : (v : Verdict) → firstRefusal (callChecks options) list ≡ v → Bounded options room (orDrawn v (fitted options (drawing (stationOf list)) room))
+      go : (v : Verdict) → firstRefusal (callChecks options) list ≡ v → Bounded options list room (orDrawn v (fitted options (drawing (stationOf list)) room))
       go Passed e = fitted-bounded e
       go (Refused check place) e = refused-bounded e
 
   -- The laws
 
-  pub refusal-bounded : {check place : ℕ} → outcome options list room ≡ sentBack check place → Refusal options room check place
-  refusal-bounded e = subst (Bounded options room) e outcome-bounded
+  pub refusal-bounded : {check place : ℕ} → outcome options list room ≡ sentBack check place → Refusal options list room check place
+  refusal-bounded e = subst (Bounded options list room) e outcome-bounded
 
   pub sheet-words : {words : List ℕ} {x : ℕ} → outcome options list room ≡ drawn words x → (length words ≤ room) × (length words ≤ mostWordsFor (options .discount))
-  sheet-words e = subst (Bounded options room) e outcome-bounded
+  sheet-words e = subst (Bounded options list room) e outcome-bounded

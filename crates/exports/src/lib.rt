@@ -1,10 +1,11 @@
 // The calls for programs that are not written in Rattle. include/dovranis.h says in words what the contracts here say.
+use drawing::spacing::Spacing;
 use hookup::Answer;
 use hookup::Options;
 use hookup::draw;
 use words::limits;
 ghost use mathlib.Core.Path.{_≡_};
-ghost use Rattle.hookup.specs.Options.{plain, quoted};
+ghost use Rattle.hookup.specs.Options.{plain, quoted, spacedBy};
 ghost use Rattle.exports.specs.Call.{mostWords, mostQuotedWords, lent, Numbered, Told, Called};
 
 // An output of so many words is long enough for every sheet, and with a discount one of so many more.
@@ -89,4 +90,45 @@ pub extern "C" fn dovranis_draw_quoted(
         crossings,
         place,
     )
+}
+
+// `hookup::draw` with a spacing for print.
+#[no_mangle]
+pub extern "C" fn dovranis_draw_spaced(
+    list: &[u32],
+    sheet: &mut [u32],
+    column_pitch: u32,
+    row_pitch: u32,
+    margin: u32,
+    words: &mut usize,
+    crossings: &mut usize,
+    place: &mut usize,
+) -> u32
+    ensures { λ r. ⌜ Called (spacedBy «column_pitch» «row_pitch» margin plain) (now (list .entry)) (now (sheet .entry)) (now (sheet .exit))
+        (lent (now (words .entry)) (now (crossings .entry)) (now (place .entry)))
+        (lent (now (words .exit)) (now (crossings .exit)) (now (place .exit))) r ⌝ }
+{
+    let options = Options::plain().spaced(Spacing::of(column_pitch, row_pitch, margin));
+    tell(draw(list, sheet, options), words, crossings, place)
+}
+
+// `hookup::draw` with a discount and a spacing.
+#[no_mangle]
+pub extern "C" fn dovranis_draw_quoted_spaced(
+    list: &[u32],
+    sheet: &mut [u32],
+    discount: u32,
+    column_pitch: u32,
+    row_pitch: u32,
+    margin: u32,
+    words: &mut usize,
+    crossings: &mut usize,
+    place: &mut usize,
+) -> u32
+    ensures { λ r. ⌜ Called (spacedBy «column_pitch» «row_pitch» margin (quoted discount)) (now (list .entry)) (now (sheet .entry)) (now (sheet .exit))
+        (lent (now (words .entry)) (now (crossings .entry)) (now (place .entry)))
+        (lent (now (words .exit)) (now (crossings .exit)) (now (place .exit))) r ⌝ }
+{
+    let options = Options::quoted(discount).spaced(Spacing::of(column_pitch, row_pitch, margin));
+    tell(draw(list, sheet, options), words, crossings, place)
 }

@@ -15,16 +15,15 @@ use Rattle.hookup.specs.declared.Options.{Options}
 use Rattle.hookup.specs.Checks.{callChecks}
 use Rattle.hookup.specs.Drawing.{drawing}
 use Rattle.hookup.specs.Outcome.{drawn, fitted, orDrawn, outcome}
-use Rattle.hookup.proofs.CallChecks.{list-clear}
 use Rattle.hookup.proofs.Drawn.{mostWordsFor}
 use Rattle.hookup.proofs.Demand3.{sheetOf, words-most}
 
 module _ (options : Options) where
   pub fitted-ample :
-      (d : Drawing) (room : ℕ) → length (quotedWords (options .discount) d) ≤ room
-      → fitted options d room ≡ drawn (quotedWords (options .discount) d) (crossings d)
+      (d : Drawing) (room : ℕ) → length (quotedWords (options .spacing) (options .discount) d) ≤ room
+      → fitted options d room ≡ drawn (quotedWords (options .spacing) (options .discount) d) (crossings d)
   unfolding fitted
-  fitted-ample d room h = rw (le-ltb room (length (quotedWords (options .discount) d)) h) refl
+  fitted-ample d room h = rw (le-ltb room (length (quotedWords (options .spacing) (options .discount) d)) h) refl
 
   pub room-ample : (list : List ℕ) (room more : ℕ) → mostWordsFor (options .discount) ≤ room → room ≤ more → outcome options list more ≡ outcome options list room
   unfolding outcome orDrawn
@@ -34,6 +33,6 @@ module _ (options : Options) where
           (v : Verdict) → firstRefusal (callChecks options) list ≡ v
           → orDrawn v (fitted options (drawing (stationOf list)) more) ≡ orDrawn v (fitted options (drawing (stationOf list)) room)
       go Passed e =
-          let s : length (sheetOf options list) ≤ mostWordsFor (options .discount) = words-most options list (list-clear options list e) in
+          let s : length (sheetOf options list) ≤ mostWordsFor (options .discount) = words-most options list e in
           fitted-ample (drawing (stationOf list)) more (omega arith) ∙ sym (fitted-ample (drawing (stationOf list)) room (omega arith))
       go (Refused check place) e = refl

@@ -6,44 +6,55 @@ use mathlib.Core.List.{List}
 use lib.ListN.{length, take, drop}
 use lib.Seq.{take-at}
 use borrow.Author.Tests.{lt-ltb, le-ltb}
+use Rattle.lists.specs.declared.Found.the-variants.{At}
 use Rattle.lists.specs.Stores.{Stored}
 use Rattle.lists.proofs.Stores.{stored-as, stored-front}
 use Rattle.station.specs.Station.{stationOf}
 use Rattle.station.specs.declared.Verdict.the-variants as verdict
 use Rattle.station.specs.Checks.{firstRefusal, Clear}
 use Rattle.drawing.specs.Drawing.{crossings}
+use Rattle.drawing.specs.Spacing.{spaced, check14}
 use Rattle.hookup.specs.declared.Answer.the-variants.{Sheet, Refused}
 use Rattle.hookup.specs.declared.Options.{Options}
-use Rattle.hookup.specs.Checks.{callChecks}
+use Rattle.hookup.specs.Checks.{givenChecks, callChecks}
 use Rattle.hookup.specs.Drawing.{drawing}
 use Rattle.hookup.specs.Outcome.{Outcome, drawn, sentBack, fitted, orDrawn, outcome}
 use Rattle.hookup.specs.Demand.{Demand3, Ordered, Crossed}
 use Rattle.hookup.specs.Answer.{counts, reply, outputOf, Drew}
-use Rattle.hookup.proofs.CallChecks.{list-clear}
+use Rattle.hookup.proofs.CallChecks.{given-refused, refused-14}
 use Rattle.hookup.proofs.Demand3.{sheetOf, demand3, ordered, crossed}
 
 module _ (options : Options) (list : List ℕ) where
   -- Outcomes
 
-  refused-outcome : (room c p : ℕ) → firstRefusal (callChecks options) list ≡ verdict.Refused c p → outcome options list room ≡ sentBack c p
+  pub refused-outcome : (room c p : ℕ) → firstRefusal (callChecks options) list ≡ verdict.Refused c p → outcome options list room ≡ sentBack c p
   unfolding outcome orDrawn
   refused-outcome room c p e = rw e refl
 
   module _ (pass : Clear (callChecks options) list) (room : ℕ) where
-    short-outcome : room < length (sheetOf options list) → outcome options list room ≡ sentBack 11 (length (sheetOf options list))
+    pub short-outcome : room < length (sheetOf options list) → outcome options list room ≡ sentBack 11 (length (sheetOf options list))
     unfolding outcome orDrawn fitted
     short-outcome h = rw (pass, lt-ltb room (length (sheetOf options list)) h) refl
 
-    drawn-outcome : length (sheetOf options list) ≤ room → outcome options list room ≡ drawn (sheetOf options list) (crossings (drawing (stationOf list)))
+    pub drawn-outcome : length (sheetOf options list) ≤ room → outcome options list room ≡ drawn (sheetOf options list) (crossings (drawing (stationOf list)))
     unfolding outcome orDrawn fitted
     drawn-outcome h = rw (pass, le-ltb room (length (sheetOf options list)) h) refl
 
   -- Answers
 
-  pub drew-refused : (before : List ℕ) (c p : ℕ) → firstRefusal (callChecks options) list ≡ verdict.Refused c p → Drew options list before before (Refused c p)
+  drew-refused : (before : List ℕ) (c p : ℕ) → firstRefusal (callChecks options) list ≡ verdict.Refused c p → Drew options list before before (Refused c p)
   drew-refused before c p e =
       let o = refused-outcome (length before) c p e in
       record { replies = sym (ap reply o); output = sym (ap (λ (z : Outcome). outputOf z before) o); demands = tt }
+
+  -- a refusal by what is tested before the drawing, and by 14
+  pub drew-sent-back : (before : List ℕ) (c p : ℕ) → firstRefusal (givenChecks options) list ≡ verdict.Refused c p → Drew options list before before (Refused c p)
+  drew-sent-back before c p e = drew-refused before c p (given-refused options list c p e)
+
+  pub drew-too-large :
+      (before : List ℕ) (p : ℕ) → Clear (givenChecks options) list → check14 (spaced (options .spacing) (drawing (stationOf list))) ≡ At p
+      → Drew options list before before (Refused 14 p)
+  drew-too-large before p pass e = drew-refused before 14 p (refused-14 options list pass p e)
 
   pub drew-short :
       (before : List ℕ) (p : ℕ) → Clear (callChecks options) list → length before < p → p ≡ length (sheetOf options list)
@@ -61,15 +72,14 @@ module _ (options : Options) (list : List ℕ) where
       let T = stored-as f S in
       let rest = stored-front T h in
       let all = sheetOf options list in
-      let clear = list-clear options list e in
       let size : n ≡ length all = omega (arith, T .place) in
       let front : take n after ≡ all = ap (take n) rest ∙ take-at all (drop (length all) before) n (sym size) in
       record {
         replies = ap₂ counts size g ∙ sym (ap reply o);
         output = rest ∙ sym (ap (λ (z : Outcome). outputOf z before) o);
         demands = (
-          subst (λ (l : List ℕ). Demand3 options list l) (sym front) (demand3 options list clear),
-          subst (λ (l : List ℕ). Ordered list l) (sym front) (ordered options list clear),
-          subst₂ (λ (l : List ℕ) (c : ℕ). Crossed list l c) (sym front) (sym g) (crossed options list clear),
+          subst (λ (l : List ℕ). Demand3 options list l) (sym front) (demand3 options list e),
+          subst (λ (l : List ℕ). Ordered options list l) (sym front) (ordered options list e),
+          subst₂ (λ (l : List ℕ) (c : ℕ). Crossed list l c) (sym front) (sym g) (crossed options list e),
         );
       }

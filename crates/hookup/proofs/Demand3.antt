@@ -5,12 +5,11 @@ use mathlib.Core.Path.{_≡_, refl, sym, ap, _∙_, subst}
 use mathlib.Core.Logic.{inl, inr, ⊎-elim}
 use mathlib.Core.List.{List, List·Memᴰ}
 use lib.ListN.{length, getD, length-map}
-use Rattle.prices.specs.declared.Discount.{Discount}
+use Rattle.lists.specs.declared.Found.the-variants.{Nothing}
 use Rattle.lists.proofs.Select.{getD-map}
 use Rattle.station.specs.Station.{Station, stationOf, noCable}
 use Rattle.station.specs.Checks.{Clear}
 use Rattle.order.specs.Order.{order}
-use Rattle.order.specs.Checks.{allChecks}
 use Rattle.order.specs.Ends.{lowerPart, upperPart}
 use Rattle.order.specs.StOrder.{Smallest}
 use Rattle.order.proofs.Bipolar.{Orderable}
@@ -18,15 +17,19 @@ use Rattle.order.proofs.StOrder.{order-ordering, order-smallest}
 use Rattle.order.proofs.Ends.{parts-joined}
 use Rattle.order.proofs.Passed.{list-orderable, list-once}
 use Rattle.drawing.specs.Drawing.{Drawing, routeAt, Meets, crossings}
+use Rattle.drawing.specs.Spacing.{rowAt, spaced, check13}
 use Rattle.drawing.specs.Sheet.{quotedWords}
 use Rattle.drawing.specs.Reading.{Ends, noEnds, partsByRow, lengthsIn}
 use Rattle.drawing.specs.Sizes.{Sizes}
 use Rattle.drawing.specs.Measured.{Measured}
+use Rattle.drawing.proofs.Spaced.{Spreads, passed-13, increases, spaced-one}
 use Rattle.hookup.specs.declared.Options.{Options}
+use Rattle.hookup.specs.Checks.{callChecks}
 use Rattle.hookup.specs.Drawing.{drawing}
 use Rattle.hookup.specs.Reading.{endsBy, drawingOf}
 use Rattle.hookup.specs.Demand.{Form, Demand3, rowOf, Ordered, Crossed}
-use Rattle.hookup.proofs.Drawn.{endsOf, mostWordsFor, fits, reads, meets, sizes, measured, quote, all-fit, quoted-most}
+use Rattle.hookup.proofs.CallChecks.{checked-given, list-clear, spacing-clear, drawing-clear}
+use Rattle.hookup.proofs.Drawn.{endsOf, mostWordsFor, joins, meets-spaced, crossings-there, reads, sizes, measured, quote, all-fit, quoted-most}
 use Rattle.hookup.proofs.PartRows.{parts-by-row, rank-row, bottom-rows}
 
 module _ (st : Station) (H : Orderable st) where
@@ -37,18 +40,18 @@ module _ (st : Station) (H : Orderable st) where
   in-ends i h = omega (arith, length-map (st .cables) (endsBy (order st)))
 
   first-at : (i : ℕ) → i < length (st .cables) → routeAt (drawing st) i .first ≡ lowerPart (order st) (getD (st .cables) i noCable)
-  unfolding routeAt endsBy
-  first-at i h = fits st H .routes-fit i (in-ends i h) .first-is ∙ ap (λ (e : Ends). e .first) (ends-at i h)
+  unfolding endsBy
+  first-at i h = joins st H .routes i (in-ends i h) .first-is ∙ ap (λ (e : Ends). e .first) (ends-at i h)
 
   last-at : (i : ℕ) → i < length (st .cables) → routeAt (drawing st) i .last ≡ upperPart (order st) (getD (st .cables) i noCable)
-  unfolding routeAt endsBy
-  last-at i h = fits st H .routes-fit i (in-ends i h) .last-is ∙ ap (λ (e : Ends). e .last) (ends-at i h)
+  unfolding endsBy
+  last-at i h = joins st H .routes i (in-ends i h) .last-is ∙ ap (λ (e : Ends). e .last) (ends-at i h)
 
-  form : (discount : Discount) → Form discount st (drawing st) (quotedWords discount (drawing st))
-  form discount = record {
+  form : (options : Options) → Form options st (drawing st) (quotedWords (options .spacing) (options .discount) (drawing st))
+  form options = record {
     words = refl;
-    parts = fits st H .parts-count;
-    cables = fits st H .routes-count ∙ length-map (st .cables) (endsBy (order st));
+    parts = joins st H .parts-count;
+    cables = joins st H .routes-count ∙ length-map (st .cables) (endsBy (order st));
     joins = λ i h.
         ⊎-elim
         (λ e. inl (first-at i h ∙ e .0, last-at i h ∙ e .1))
@@ -58,53 +61,69 @@ module _ (st : Station) (H : Orderable st) where
 
 -- the words of a list's sheet
 abbrev pub sheetOf : Options → List ℕ → List ℕ
-sheetOf options list = quotedWords (options .discount) (drawing (stationOf list))
+sheetOf options list = quotedWords (options .spacing) (options .discount) (drawing (stationOf list))
 
-module _ (options : Options) (list : List ℕ) (pass : Clear allChecks list) where
+module _ (options : Options) (list : List ℕ) (pass : Clear (callChecks options) list) where
   orderable : Orderable (stationOf list)
-  orderable = list-orderable list pass
+  orderable = list-orderable list (list-clear options list (checked-given options list pass))
 
-  -- what is read off the sheet is the drawing
-  read-off : drawingOf list (sheetOf options list) ≡ drawing (stationOf list)
+  spreads : Spreads (options .spacing)
+  spreads = passed-13 (options .spacing) (spacing-clear options list (checked-given options list pass))
+
+  -- what is read off the sheet is the drawing, spaced
+  read-off : drawingOf list (sheetOf options list) ≡ spaced (options .spacing) (drawing (stationOf list))
   unfolding drawingOf
-  read-off = reads (stationOf list) orderable (options .discount)
+  read-off = reads (stationOf list) orderable (options .spacing) spreads (drawing-clear options list pass) (options .discount)
 
-  -- demand 3
   pub demand3 : Demand3 options list (sheetOf options list)
   demand3 =
       let st : Station = stationOf list in
       let sheet : List ℕ = sheetOf options list in
+      let s = options .spacing in
+      let fit = drawing-clear options list pass in
       record {
-        form = subst (λ (d : Drawing). Form (options .discount) st d sheet) (sym read-off) (form st orderable (options .discount));
-        meetings = subst (λ (d : Drawing). Meets d) (sym read-off) (meets st orderable);
-        sizes = subst (λ (d : Drawing). Sizes (st .parts) (length (st .cables)) d sheet) (sym read-off) (sizes st orderable (options .discount) (list-once list pass));
+        grid = drawing st;
+        spacing = read-off;
+        form = form st orderable options;
+        meetings = subst (λ (d : Drawing). Meets d) (sym read-off) (meets-spaced st orderable s (increases s spreads));
+        sizes =
+            subst (λ (d : Drawing). Sizes s (st .parts) (length (st .cables)) (drawing st) d sheet) (sym read-off)
+            (sizes st orderable s spreads fit (options .discount) (list-once list (list-clear options list (checked-given options list pass))));
         lengths =
-            subst (λ (d : Drawing). Measured (st .parts) (length (st .cables)) d (lengthsIn (st .parts) (length (st .cables)) sheet)) (sym read-off)
-            (measured st orderable (options .discount));
-        quote = quote st orderable (options .discount);
+            subst (λ (d : Drawing). Measured s (st .parts) (length (st .cables)) (drawing st) d (lengthsIn (st .parts) (length (st .cables)) sheet)) (sym read-off)
+            (measured st orderable s spreads fit (options .discount));
+        quote = quote st orderable s spreads fit (options .discount);
       }
 
   -- of demand 2: 'The parts stand in the smallest st-ordering between the two named ends'
-  pub ordered : Ordered list (sheetOf options list)
+  pub ordered : Ordered options list (sheetOf options list)
   ordered =
       let st : Station = stationOf list in
       let sheet : List ℕ = sheetOf options list in
-      let e : partsByRow (st .parts) sheet ≡ order st = parts-by-row (options .discount) list orderable in
+      let s = options .spacing in
+      let fit = drawing-clear options list pass in
+      let e : partsByRow (st .parts) sheet ≡ order st = parts-by-row st orderable s spreads fit (options .discount) in
       record {
         smallest = subst (λ (l : List ℕ). Smallest st l) (sym e) (order-smallest st orderable);
         rows = λ k h.
             ap (λ (l : List ℕ). rowOf sheet (getD l k 0)) e
-            ∙ rank-row (options .discount) st orderable k (omega (arith, order-ordering st orderable .all)) ∙ ap (λ (d : ℕ). d + k) (bottom-rows (options .discount) st orderable);
+            ∙ rank-row st orderable s spreads fit (options .discount) k (omega (arith, order-ordering st orderable .all))
+            ∙ ap (λ (d : ℕ). rowAt s (d + k)) (bottom-rows st orderable);
       }
 
   -- 2026-02: the crossings of the drawing are those that its words show
   pub crossed : Crossed list (sheetOf options list) (crossings (drawing (stationOf list)))
-  crossed = record { pairs = sym (ap crossings read-off) }
+  crossed = record { pairs = sym (ap crossings read-off ∙ crossings-there (stationOf list) orderable (options .spacing) spreads) }
 
   -- every word has 32 bits
   pub sheet-fits : (w : ℕ) → List·Memᴰ w (sheetOf options list) → w < 2 ^ 32
-  sheet-fits = all-fit (stationOf list) orderable (options .discount)
+  sheet-fits = all-fit (stationOf list) orderable (options .spacing) spreads (drawing-clear options list pass) (options .discount)
 
   -- an output of so many words always suffices
   pub words-most : length (sheetOf options list) ≤ mostWordsFor (options .discount)
-  words-most = quoted-most (stationOf list) orderable (options .discount)
+  words-most = quoted-most (stationOf list) orderable (options .spacing) (options .discount)
+
+-- the drawing on the grid that demand 3 names is told by the words: no other is spaced so
+pub one-grid : (options : Options) (list sheet : List ℕ) → check13 (options .spacing) ≡ Nothing → (D E : Demand3 options list sheet) → D .grid ≡ E .grid
+one-grid options list sheet good D E =
+    let s = options .spacing in spaced-one s (increases s (passed-13 s good)) (D .grid) (E .grid) (sym (D .spacing) ∙ E .spacing)

@@ -1,16 +1,19 @@
 -- The drawing of a station that was not sent back: it is the layout of its cables in ranks, under the parts' own numbers, and has its meetings,
--- sizes, crossings, lengths and prices. Assumes nothing.
-use Prim.Native.Nat.{ℕ, _+_, _*_, _<_, _≤_, _^_}
+-- sizes, crossings, lengths and prices, in every spacing. Assumes nothing.
+use Prim.Native.Nat.{ℕ, _+_, _*_, _<_, _≤_, _^_, max}
 use native.Mathlib.Omega.{arith}
-use mathlib.Core.Path.{_≡_, refl, sym, ap, subst, _∙_}
+use mathlib.Core.Path.{_≡_, refl, sym, ap, subst, subst₂, _∙_}
+use mathlib.Core.Bool.{cond}
 use mathlib.Core.List.{List, map, List·Memᴰ}
 use lib.ListN.{length, getD, length-map}
 use lib.Seq.{ext-getD}
-use Rattle.words.specs.Limits.{mostParts, mostCables, mostWords, mostQuotedWords}
+use borrow.Author.Tests.{le-ltb}
+use Rattle.words.specs.Limits.{mostParts, mostCables, mostWords, mostQuotedWords, mostField}
 use Rattle.prices.specs.declared.Discount.{Discount}
 use Rattle.prices.specs.declared.Discount.the-variants.{NotGiven, Given}
 use Rattle.prices.specs.Quoted.{Quoted}
-use Rattle.lists.specs.Select.{tabulate, count}
+use Rattle.lists.specs.declared.Found.the-variants.{At, Nothing}
+use Rattle.lists.specs.Select.{tabulate}
 use Rattle.lists.proofs.Select.{getD-map, getD-tabulate, length-tabulate}
 use Rattle.station.specs.Station.{Station, noCable}
 use Rattle.order.specs.Order.{order, rankIn}
@@ -22,17 +25,23 @@ use Rattle.order.proofs.StOrder.{order-ordering}
 use Rattle.order.proofs.Ranks.{order-ranked, graph-parts, graph-size, rank-below, part-of-rank, rank-of-part}
 use Rattle.order.proofs.Graphs.{EndsOnce, cables-le}
 use Rattle.order.proofs.Ends.{lower-part, upper-part}
-use Rattle.drawing.specs.Drawing.{Drawing, pointsAt, Meets, crossings, renumbered}
-use Rattle.drawing.specs.Lengths.{lineLength, mostLength}
+use Rattle.drawing.specs.declared.spacing.Spacing.{Spacing}
+use Rattle.drawing.specs.Drawing.{Drawing, spotOf, pointsAt, Meets, crossings, renumbered}
+use Rattle.drawing.specs.Lengths.{lineLength, cableLengths, mostLength}
+use Rattle.drawing.specs.Spacing.{spaced, onGrid, tooLarge, check14}
 use Rattle.drawing.specs.Sheet.{sheetWords, quotedWords}
 use Rattle.drawing.specs.Reading.{Ends, noEnds, lengthsIn, quoteIn}
+use Rattle.drawing.specs.Counts.{cornerCount}
 use Rattle.drawing.specs.Sizes.{Sizes}
 use Rattle.drawing.specs.Measured.{Measured}
-use Rattle.drawing.proofs.ReadBack.{DrawingFits}
-use Rattle.drawing.proofs.Quoted.{quoted-length, quoted-renumbered, drawing-read, lengths-read, quote-read, quoted-fits, quoted-corners, sizes-of-words}
-use Rattle.drawing.proofs.Renumbered.{Names, routes-renumbered, points-renumbered, meets-renumbered, crossings-renumbered, length-renumbered}
-use Rattle.drawing.specs.Counts.{isCorner}
-use Rattle.drawing.proofs.Sized.{named, fits-renumbered, corner-words-renumbered, sizes-renumbered}
+use Rattle.drawing.proofs.LengthWords.{LengthsFit}
+use Rattle.drawing.proofs.ReadBack.{SpotFits, DrawingFits}
+use Rattle.drawing.proofs.Spaced.{Increases, Spreads, increases, passed-13, grid-passes, parts-spaced, unspaced}
+use Rattle.drawing.proofs.SpacedCrossings.{crossings-spaced}
+use Rattle.drawing.proofs.Fields.{head-decides}
+use Rattle.drawing.proofs.Quoted.{quoted-length, quoted-renumbered, drawing-read, lengths-read, quote-read, quoted-fits, quoted-corners}
+use Rattle.drawing.proofs.Renumbered.{Names, routes-renumbered, points-renumbered, lengths-renumbered, meets-renumbered, crossings-renumbered, length-renumbered, corner-count-renumbered}
+use Rattle.drawing.proofs.Sized.{Joins, joins-fit, named, joins-renumbered, joins-spaced, spaced-renumbered, GridSizes, sizes-renumbered, fields-within, sizes-spaced}
 use Rattle.layout.specs.Points.{bottomRows, topRows}
 use Rattle.layout.specs.Layout.{layout}
 use Rattle.layout.proofs.Step.{ins, outs}
@@ -89,12 +98,21 @@ module _ (st : Station) where
     pub crossings-are : crossings (layout (graphOf st)) ≡ crossings (drawing st)
     crossings-are = sym (ap crossings is-renumbered ∙ crossings-renumbered (order st) (layout (graphOf st)) names (laid.meets (graphOf st) R))
 
-    length-is : length (sheetWords (layout (graphOf st))) ≡ length (sheetWords (drawing st))
-    length-is = sym (ap (λ (d : Drawing). length (sheetWords d)) is-renumbered ∙ length-renumbered (order st) (layout (graphOf st)))
+    length-is : (s : Spacing) → length (sheetWords s (layout (graphOf st))) ≡ length (sheetWords s (drawing st))
+    length-is s = sym (ap (λ (d : Drawing). length (sheetWords s d)) is-renumbered ∙ length-renumbered (order st) (layout (graphOf st)) s)
 
-    pub quoted-length-is : (discount : Discount) → length (quotedWords discount (layout (graphOf st))) ≡ length (quotedWords discount (drawing st))
-    quoted-length-is discount =
-        sym (ap (λ (d : Drawing). length (quotedWords discount d)) is-renumbered ∙ quoted-renumbered discount (order st) (layout (graphOf st)))
+    pub quoted-length-is :
+        (s : Spacing) (discount : Discount) → length (quotedWords s discount (layout (graphOf st))) ≡ length (quotedWords s discount (drawing st))
+    quoted-length-is s discount =
+        sym (ap (λ (d : Drawing). length (quotedWords s discount d)) is-renumbered ∙ quoted-renumbered s discount (order st) (layout (graphOf st)))
+
+    -- 'What holds between two cables is shown once for all spacings'
+    pub meets-spaced : (s : Spacing) → Increases s → Meets (spaced s (drawing st))
+    meets-spaced s I =
+        let G : StGraph = graphOf st in
+        subst Meets (sym (ap (spaced s) is-renumbered ∙ spaced-renumbered s (order st) (layout G) names))
+        (meets-renumbered (order st) (spaced s (layout G)) (subst (λ (n : ℕ). Names n (order st)) (sym (parts-spaced s (layout G))) names)
+        (laid.meets-spaced G R s I))
 
     -- the ends that a reader takes are those of the layout, under their names
     ends-at :
@@ -120,53 +138,44 @@ module _ (st : Station) where
         (e ∙ sym (graph-size st) ∙ sym (length-tabulate (size (graphOf st)) (laid.endsOf (graphOf st))) ∙ sym (length-map l (named (order st))))
         (λ i h. ends-at i (omega (arith, e)))
 
-    pub fits : DrawingFits (st .parts) (endsOf st) (drawing st)
-    fits =
-        subst (λ (d : Drawing). DrawingFits (st .parts) (endsOf st) d) (sym is-renumbered)
-        (subst (λ (l : List Ends). DrawingFits (st .parts) l (renumbered (order st) (layout (graphOf st)))) (sym ends-are)
-        (subst (λ (n : ℕ). DrawingFits n (map (named (order st)) (tabulate (size (graphOf st)) (laid.endsOf (graphOf st)))) (renumbered (order st) (layout (graphOf st)))) (graph-parts st)
-        (fits-renumbered (order st) (layout (graphOf st)) names (laid.meets (graphOf st) R) (graphOf st .parts) _ (laid.fits (graphOf st) R two most))))
+    pub joins : Joins (st .parts) (endsOf st) (drawing st)
+    joins =
+        subst (λ (d : Drawing). Joins (st .parts) (endsOf st) d) (sym is-renumbered)
+        (subst (λ (l : List Ends). Joins (st .parts) l (renumbered (order st) (layout (graphOf st)))) (sym ends-are)
+        (subst (λ (n : ℕ). Joins n (map (named (order st)) (tabulate (size (graphOf st)) (laid.endsOf (graphOf st)))) (renumbered (order st) (layout (graphOf st)))) (graph-parts st)
+        (joins-renumbered (order st) (layout (graphOf st)) (graphOf st .parts) _ (laid.joins (graphOf st) R two most))))
 
-    -- the layout's own facts, as the laws of other numbers take them
-    ranks : List Ends
-    ranks = tabulate (size (graphOf st)) (laid.endsOf (graphOf st))
+    lengths-fit : LengthsFit (cableLengths (drawing st))
+    lengths-fit =
+        subst (λ (d : Drawing). LengthsFit (cableLengths d)) (sym is-renumbered)
+        (subst LengthsFit (sym (lengths-renumbered (order st) (layout (graphOf st)) names (laid.meets (graphOf st) R))) (laid.lengths-fit (graphOf st) R two most))
 
-    ranks-all : length ranks ≡ size (graphOf st)
-    unfolding ranks
-    ranks-all = laid.ends-length (graphOf st) R two most
-
-    few : length ranks ≤ 65536
-    few = omega (arith, ranks-all, laid.few-lines (graphOf st) R two most)
+    lines : length (drawing st .routes) ≡ length (st .cables)
+    lines = joins .routes-count ∙ length-map (st .cables) (endsBy (order st))
 
     -- 'The sheet has .. 2m - 2n + 2 + d + e corners and 3m - n + 3 + d + e words.'
-    pub corner-words :
-        count isCorner (sheetWords (drawing st)) + 2 * st .parts ≡ 2 * length (st .cables) + 2 + bottomRows (graphOf st) + topRows (graphOf st)
-    unfolding ranks
-    corner-words =
+    pub corner-total : cornerCount (drawing st .routes) + 2 * st .parts ≡ 2 * length (st .cables) + 2 + bottomRows (graphOf st) + topRows (graphOf st)
+    corner-total =
         let G : StGraph = graphOf st in
         omega (
           arith,
-          ap (λ (d : Drawing). count isCorner (sheetWords d)) is-renumbered
-              ∙ corner-words-renumbered (order st) (layout G) names (laid.meets G R) (G .parts) ranks (laid.fits G R two most) few,
-          laid.corner-words G R two most,
+          ap (λ (d : Drawing). cornerCount (d .routes)) is-renumbered ∙ corner-count-renumbered (order st) (layout G),
+          laid.corner-total G R two,
           graph-parts st,
           graph-size st,
         )
 
-    -- and m + 1 lengths (2026-01)
-    pub all-words : length (sheetWords (drawing st)) + st .parts ≡ 4 * length (st .cables) + 4 + bottomRows (graphOf st) + topRows (graphOf st)
-    all-words = omega (arith, length-is, laid.words-count (graphOf st) R two, graph-parts st, graph-size st)
+    -- and m + 1 lengths (2026-01), in every spacing
+    pub all-words : (s : Spacing) → length (sheetWords s (drawing st)) + st .parts ≡ 4 * length (st .cables) + 4 + bottomRows (graphOf st) + topRows (graphOf st)
+    all-words s = omega (arith, length-is s, laid.words-count (graphOf st) R two s, graph-parts st, graph-size st)
 
     -- where the two lowest ranks, and the two highest, are joined once
-    sheet-sizes : EndsOnce (graphOf st) → Sizes (st .parts) (length (st .cables)) (drawing st) (sheetWords (drawing st))
-    unfolding ranks
-    sheet-sizes once =
+    pub grid-sizes : EndsOnce (graphOf st) → GridSizes (st .parts) (length (st .cables)) (drawing st)
+    grid-sizes once =
         let G : StGraph = graphOf st in
-        subst (λ (d : Drawing). Sizes (st .parts) (length (st .cables)) d (sheetWords d)) (sym is-renumbered)
-        (subst (λ (m : ℕ). Sizes (st .parts) m (renumbered (order st) (layout G)) (sheetWords (renumbered (order st) (layout G)))) (ranks-all ∙ graph-size st)
-        (subst (λ (n : ℕ). Sizes n (length ranks) (renumbered (order st) (layout G)) (sheetWords (renumbered (order st) (layout G)))) (graph-parts st)
-        (sizes-renumbered (order st) (layout G) names (laid.meets G R) (G .parts) ranks (laid.fits G R two most) few
-        (subst (λ (m : ℕ). Sizes (G .parts) m (layout G) (sheetWords (layout G))) (sym ranks-all) (laid.sizes G R two most (omega (arith, graph-parts st, H .wired .least)) once)))))
+        subst (λ (d : Drawing). GridSizes (st .parts) (length (st .cables)) d) (sym is-renumbered)
+        (sizes-renumbered (order st) (layout G) names (laid.meets G R) (st .parts) (length (st .cables)) (laid.parts-count G ∙ graph-parts st) (laid.routes-count G ∙ graph-size st)
+        (subst₂ (λ (n m : ℕ). GridSizes n m (layout G)) (graph-parts st) (graph-size st) (laid.sizes G R two most (omega (arith, graph-parts st, H .wired .least)) once)))
 
     -- no line is longer
     length-most : (i : ℕ) → i < length (drawing st .routes) → lineLength (pointsAt (drawing st) i) ≤ mostLength (st .parts)
@@ -180,53 +189,85 @@ module _ (st : Station) where
           graph-parts st,
         )
 
-    lines : length (drawing st .routes) ≡ length (st .cables)
-    lines = fits .routes-count ∙ length-map (st .cables) (endsBy (order st))
-
     few-cables : length (drawing st .routes) ≤ mostCables
     few-cables = omega (arith, lines, graph-size st, graph-parts st, cables-le (graphOf st) R, H .wired .most)
 
     small : st .parts ≤ mostParts
     small = H .wired .most
 
-    -- What the words show, whatever discount is given
+    -- As it is spaced
 
-    module _ (discount : Discount) where
-      -- what is read off the sheet is the drawing
-      pub reads : readBy (order st) st (quotedWords discount (drawing st)) ≡ drawing st
-      unfolding readBy
-      reads = drawing-read (st .parts) (endsOf st) (drawing st) fits small few-cables length-most discount
+    module _ (s : Spacing) (P : Spreads s) where
+      grows : Increases s
+      grows = increases s P
 
-      pub sizes : EndsOnce (graphOf st) → Sizes (st .parts) (length (st .cables)) (drawing st) (quotedWords discount (drawing st))
-      sizes once =
-          sizes-of-words (st .parts) (length (st .cables)) (drawing st)
-          (quoted-corners (st .parts) (endsOf st) (drawing st) fits small few-cables length-most discount) (sheet-sizes once)
+      pub crossings-there : crossings (spaced s (drawing st)) ≡ crossings (drawing st)
+      crossings-there = crossings-spaced s grows (drawing st) meets
 
-      -- the lengths on the sheet
-      pub measured :
-          Measured (st .parts) (length (st .cables)) (drawing st) (lengthsIn (st .parts) (length (st .cables)) (quotedWords discount (drawing st)))
-      measured =
-          subst (λ (m : ℕ). Measured (st .parts) m (drawing st) (lengthsIn (st .parts) m (quotedWords discount (drawing st)))) lines
-          (lengths-read (st .parts) (endsOf st) (drawing st) fits small few-cables length-most discount)
+      -- 14 looks at the head alone
+      pub head-alone :
+          EndsOnce (graphOf st) → let d = spaced s (drawing st) in check14 d ≡ cond (tooLarge (max (d .width) (d .height))) (At (max (d .width) (d .height))) Nothing
+      head-alone once =
+          head-decides (spaced s (drawing st)) (fields-within s grows (drawing st) meets (st .parts) (length (st .cables)) (joins .parts-count) lines (grid-sizes once))
 
-      -- and the prices
-      pub quote :
-          Quoted discount (length (st .cables)) (lengthsIn (st .parts) (length (st .cables)) (quotedWords discount (drawing st)))
-          (quoteIn (st .parts) (length (st .cables)) (quotedWords discount (drawing st)))
-      quote =
-          subst
-          (λ (m : ℕ).
-          Quoted discount m (lengthsIn (st .parts) m (quotedWords discount (drawing st))) (quoteIn (st .parts) m (quotedWords discount (drawing st)))) lines
-          (quote-read (st .parts) (endsOf st) (drawing st) fits small few-cables length-most discount)
+      -- What the words show, whatever discount is given, where the numbers fit
 
-      pub all-fit : (w : ℕ) → List·Memᴰ w (quotedWords discount (drawing st)) → w < 2 ^ 32
-      all-fit = quoted-fits (st .parts) (endsOf st) (drawing st) fits small few-cables length-most discount
+      module _ (pass : check14 (spaced s (drawing st)) ≡ Nothing) (discount : Discount) where
+        fits : DrawingFits (st .parts) (endsOf st) (spaced s (drawing st))
+        fits = joins-fit (st .parts) (endsOf st) (spaced s (drawing st)) (joins-spaced s (st .parts) (endsOf st) (drawing st) joins) pass
+
+        -- the spot of a part
+        pub spot-fits : (p : ℕ) → p < st .parts → SpotFits (spotOf (spaced s (drawing st)) p)
+        unfolding spotOf
+        spot-fits p h = fits .parts-fit p (omega (arith, fits .parts-count))
+
+        -- what is read off the sheet is the drawing
+        pub reads : readBy (order st) st (quotedWords s discount (drawing st)) ≡ spaced s (drawing st)
+        unfolding readBy
+        reads = drawing-read s (st .parts) (endsOf st) (drawing st) fits P meets lengths-fit small few-cables length-most discount
+
+        pub sizes : EndsOnce (graphOf st) → Sizes s (st .parts) (length (st .cables)) (drawing st) (spaced s (drawing st)) (quotedWords s discount (drawing st))
+        sizes once =
+            sizes-spaced s grows (drawing st) meets (st .parts) (length (st .cables)) (joins .parts-count) lines (grid-sizes once) _
+            (quoted-corners s (st .parts) (endsOf st) (drawing st) fits P meets lengths-fit small few-cables length-most discount)
+
+        -- the lengths on the sheet
+        pub measured :
+            Measured s (st .parts) (length (st .cables)) (drawing st) (spaced s (drawing st))
+            (lengthsIn (st .parts) (length (st .cables)) (quotedWords s discount (drawing st)))
+        measured =
+            subst (λ (m : ℕ). Measured s (st .parts) m (drawing st) (spaced s (drawing st)) (lengthsIn (st .parts) m (quotedWords s discount (drawing st)))) lines
+            (lengths-read s (st .parts) (endsOf st) (drawing st) fits P meets lengths-fit small few-cables length-most discount)
+
+        -- and the prices
+        pub quote :
+            Quoted discount (length (st .cables)) (lengthsIn (st .parts) (length (st .cables)) (quotedWords s discount (drawing st)))
+            (quoteIn (st .parts) (length (st .cables)) (quotedWords s discount (drawing st)))
+        quote =
+            subst
+            (λ (m : ℕ).
+            Quoted discount m (lengthsIn (st .parts) m (quotedWords s discount (drawing st))) (quoteIn (st .parts) m (quotedWords s discount (drawing st)))) lines
+            (quote-read s (st .parts) (endsOf st) (drawing st) fits P meets lengths-fit small few-cables length-most discount)
+
+        pub all-fit : (w : ℕ) → List·Memᴰ w (quotedWords s discount (drawing st)) → w < 2 ^ 32
+        all-fit = quoted-fits s (st .parts) (endsOf st) (drawing st) fits P meets lengths-fit small few-cables length-most discount
+
+    -- On the grid every number fits
+
+    pub grid-fits : EndsOnce (graphOf st) → check14 (spaced onGrid (drawing st)) ≡ Nothing
+    grid-fits once =
+        let d : Drawing = spaced onGrid (drawing st) in
+        let S = grid-sizes once in
+        let w : d .width ≡ drawing st .width = ap (λ (z : Drawing). z .width) (unspaced (drawing st)) in
+        let h : d .height ≡ drawing st .height = ap (λ (z : Drawing). z .height) (unspaced (drawing st)) in
+        let b : max (d .width) (d .height) ≤ mostField = omega (arith, S .width, S .height, small, few-cables, lines) in
+        head-alone onGrid (passed-13 onGrid grid-passes) once ∙ rw (le-ltb mostField (max (d .width) (d .height)) b) refl
 
     -- four cables at a part at most
-    words-most : length (sheetWords (drawing st)) ≤ mostWords
-    words-most =
-        omega (arith, all-words, cables-le (graphOf st) R, bottomRows-le (graphOf st) R, topRows-le (graphOf st) R, graph-parts st, graph-size st, H .wired .most)
+    words-most : (s : Spacing) → length (sheetWords s (drawing st)) ≤ mostWords
+    words-most s =
+        omega (arith, all-words s, cables-le (graphOf st) R, bottomRows-le (graphOf st) R, topRows-le (graphOf st) R, graph-parts st, graph-size st, H .wired .most)
 
-    pub quoted-most : (discount : Discount) → length (quotedWords discount (drawing st)) ≤ mostWordsFor discount
-    quoted-most NotGiven = omega (arith, quoted-length NotGiven (drawing st), words-most)
-    quoted-most (Given k) = omega (arith, quoted-length (Given k) (drawing st), words-most, few-cables)
+    pub quoted-most : (s : Spacing) (discount : Discount) → length (quotedWords s discount (drawing st)) ≤ mostWordsFor discount
+    quoted-most s NotGiven = omega (arith, quoted-length s NotGiven (drawing st), words-most s)
+    quoted-most s (Given k) = omega (arith, quoted-length s (Given k) (drawing st), words-most s, few-cables)

@@ -1,5 +1,5 @@
 -- The eleven refusals, the boundaries, and stations A to D of document 01, with the lengths of request 2026-01, the crossings of 2026-02, the
--- corners of 2026-04 and the prices of 2026-05, as the definitions give them. Assumes nothing.
+-- corners of 2026-04, the prices of 2026-05 and the spacing of 2026-06, as the definitions give them. Assumes nothing.
 use Prim.Native.Nat.{ℕ}
 use mathlib.Core.Path.{_≡_, refl}
 use mathlib.Core.Bool.{true, false}
@@ -17,11 +17,14 @@ use Rattle.order.proofs.Triangle.{triangle}
 use Rattle.drawing.specs.Spots.{spotAt}
 use Rattle.drawing.specs.Drawing.{Drawing, routeAt, crossPair, crossings}
 use Rattle.drawing.specs.Lengths.{cableLengths}
+use Rattle.drawing.specs.Spacing.{onGrid}
 use Rattle.drawing.specs.Sheet.{sheetWords}
 use Rattle.drawing.proofs.Worked.{thirteen}
-use Rattle.hookup.specs.Options.{plain, quoted}
+use Rattle.hookup.specs.Options.{plain, quoted, spacedBy}
 use Rattle.hookup.specs.Drawing.{drawing}
 use Rattle.hookup.specs.Outcome.{drawn, sentBack, outcome}
+use Rattle.hookup.proofs.Demand3.{sheetOf}
+use Rattle.hookup.proofs.Ring.{ring, ring-64, ring-17, ring-16, ring-16-short}
 use Rattle.hookup.proofs.Computing.{hookup-computing}
 
 abbrev pub square : List ℕ
@@ -45,6 +48,24 @@ stationD =
     ∷ 0x30002003
     ∷ 0x30002004
     ∷ 0x30003004
+    ∷ []
+
+-- the triangle for print, with column pitch 2, row pitch 3 and margin 10
+abbrev pub printed : List ℕ
+printed =
+    0x4001601a
+    ∷ 0x5000a00a
+    ∷ 0x5000a00d
+    ∷ 0x5000a010
+    ∷ 0x60000000
+    ∷ 0x60001000
+    ∷ 0x60002002
+    ∷ 0x7000c00a
+    ∷ 0x7000c010
+    ∷ 0x80000001
+    ∷ 0x80001001
+    ∷ 0x80002004
+    ∷ 0xa0000006
     ∷ []
 
 abbrev drawingOfList : List ℕ → Drawing
@@ -86,8 +107,8 @@ pub record Table : Type 0 where
   c-left : connected (stationOf stationC .cables) (2 ∷ 3 ∷ []) ≡ false
   d-width : drawingOfList stationD .width ≡ 6
   d-height : drawingOfList stationD .height ≡ 6
-  d-corners : count (λ w. eqb (kindOf w) corner) (sheetWords (drawingOfList stationD)) ≡ 14
-  d-words : length (sheetWords (drawingOfList stationD)) ≡ 41
+  d-corners : count (λ w. eqb (kindOf w) corner) (sheetWords onGrid (drawingOfList stationD)) ≡ 14
+  d-words : length (sheetWords onGrid (drawingOfList stationD)) ≡ 41
   -- 2026-01
   d-lengths : cableLengths (drawingOfList stationD) ≡ 6 ∷ 3 ∷ 3 ∷ 5 ∷ 5 ∷ 5 ∷ 7 ∷ 4 ∷ 4 ∷ 4 ∷ []
   d-total : sum (cableLengths (drawingOfList stationD)) ≡ 46
@@ -139,6 +160,32 @@ pub record Table : Type 0 where
   -- D's lengths 6, 3, 3, 5, 5, 5, 7, 4, 4 and 4 take 6, 3, 3, 6, 6, 6, 8, 4, 4 and 4 steps; a discount of 10 percent leaves half a cent of 1,005 cents
   d-quoted :
       cablePrices 1000 (cableLengths (drawingOfList stationD)) ≡ 999 ∷ 905 ∷ 905 ∷ 999 ∷ 999 ∷ 999 ∷ 1062 ∷ 936 ∷ 936 ∷ 936 ∷ []
+  -- 2026-06: the triangle with column pitch 2, row pitch 3 and margin 10; run lengths 'and the bill still count grid steps'
+  spaced-triangle : outcome (spacedBy 2 3 10 plain) triangle 13 ≡ drawn printed 0
+  spaced-quoted : outcome (spacedBy 2 3 10 (quoted 1250)) triangle 17 ≡ drawn (printed ++ 849 ∷ 849 ∷ 910 ∷ 2608 ∷ []) 0
+  spaced-short : outcome (spacedBy 2 3 10 plain) triangle 12 ≡ sentBack 11 13
+  -- the greatest pitches and margin
+  widest :
+      outcome (spacedBy 64 64 255 plain) triangle 13
+      ≡ drawn
+      (0x4023e27e ∷ 0x500ff0ff ∷ 0x500ff13f ∷ 0x500ff17f ∷ 0x60000000 ∷ 0x60001000 ∷ 0x60002002 ∷ 0x7013f0ff ∷ 0x7013f17f ∷ 0x80000001 ∷ 0x80001001 ∷ 0x80002004 ∷ 0xa0000006 ∷ [])
+      0
+  -- 'With pitches 1 and margin 0 .. the sheet is the one known so far.'
+  on-grid : outcome (spacedBy 1 1 0 plain) triangle 13 ≡ drawn thirteen 0
+  d-spaced : outcome (spacedBy 3 2 1 plain) stationD 40 ≡ sentBack 11 41
+  -- 13: 'place 0 for column pitch, 1 for row pitch, 2 for margin, first fault given', 'tested after 12 and before the list'
+  refusal-13 : outcome (spacedBy 0 0 0 plain) triangle room ≡ sentBack 13 0
+  refusal-13-row : outcome (spacedBy 1 65 256 plain) triangle room ≡ sentBack 13 1
+  refusal-13-margin : outcome (spacedBy 64 64 256 plain) triangle room ≡ sentBack 13 2
+  refusal-13-column : outcome (spacedBy 65 1 0 plain) triangle room ≡ sentBack 13 0
+  refusal-13-first : outcome (spacedBy 1 0 0 plain) [] 0 ≡ sentBack 13 1
+  refusal-13-last : outcome (spacedBy 0 0 0 (quoted 10001)) [] 0 ≡ sentBack 12 10001
+  spacing-passes : outcome (spacedBy 64 64 255 plain) [] 0 ≡ sentBack 1 0
+  -- 14: 'a coordinate or head field above 4,095 .., its place the largest such number', before 11: the ring of 256 parts is 255 high, and 16 is the largest row pitch that fits
+  refusal-14 : (room : ℕ) → outcome (spacedBy 1 64 0 plain) ring room ≡ sentBack 14 16320
+  refusal-14-least : (room : ℕ) → outcome (spacedBy 1 17 0 plain) ring room ≡ sentBack 14 4335
+  ring-fits : outcome (spacedBy 1 16 0 plain) ring 772 ≡ drawn (sheetOf (spacedBy 1 16 0 plain) ring) (crossings (drawingOfList ring))
+  ring-short : outcome (spacedBy 1 16 0 plain) ring 771 ≡ sentBack 11 772
 
 pub table : Table
 unfolding hookup-computing
@@ -196,4 +243,21 @@ table = record {
   refusal-12-first = refl;
   discount-10000 = refl;
   d-quoted = refl;
+  spaced-triangle = refl;
+  spaced-quoted = refl;
+  spaced-short = refl;
+  widest = refl;
+  on-grid = refl;
+  d-spaced = refl;
+  refusal-13 = refl;
+  refusal-13-row = refl;
+  refusal-13-margin = refl;
+  refusal-13-column = refl;
+  refusal-13-first = refl;
+  refusal-13-last = refl;
+  spacing-passes = refl;
+  refusal-14 = ring-64;
+  refusal-14-least = ring-17;
+  ring-fits = ring-16;
+  ring-short = ring-16-short;
 }

@@ -33,7 +33,7 @@ outputOf (sentBack check place) before = before
 -- the crossings are those that the words show
 abbrev pub Demanded : Answer → Options → List ℕ → List ℕ → Type 0
 Demanded (Sheet words crossings) options list output =
-    Demand3 options list (take words output) × Ordered list (take words output) × Crossed list (take words output) crossings
+    Demand3 options list (take words output) × Ordered options list (take words output) × Crossed list (take words output) crossings
 Demanded (Refused check place) options list output = Unit
 
 -- a call on what the caller gives and a list, with what stood in the output before and after

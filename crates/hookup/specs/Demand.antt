@@ -1,4 +1,4 @@
--- Demands 2 and 3, and requests 2026-01, 2026-02, 2026-04 and 2026-05, as claims about the words of a list and the words of its sheet. Assumes nothing.
+-- Demands 2 and 3, and requests 2026-01, 2026-02 and 2026-04 to 2026-06, as claims about the words of a list and the words of its sheet. Assumes nothing.
 use Prim.Native.Nat.{ℕ, _+_, _<_}
 use mathlib.Core.Path.{_≡_}
 use mathlib.Core.Logic.{_⊎_}
@@ -7,11 +7,11 @@ use lib.ListN.{length, getD}
 use lib.Dec.{eqb}
 use Rattle.lists.specs.Select.{oneIf}
 use Rattle.words.specs.Words.{secondOf}
-use Rattle.prices.specs.declared.Discount.{Discount}
 use Rattle.prices.specs.Quoted.{Quoted}
 use Rattle.station.specs.Station.{Station, stationOf, degree, noCable}
 use Rattle.order.specs.StOrder.{Smallest}
 use Rattle.drawing.specs.Drawing.{Drawing, routeAt, Meets, crossings}
+use Rattle.drawing.specs.Spacing.{rowAt, spaced}
 use Rattle.drawing.specs.Sheet.{quotedWords}
 use Rattle.drawing.specs.Reading.{partsByRow, lengthsIn, quoteIn}
 use Rattle.drawing.specs.Sizes.{Sizes}
@@ -19,10 +19,10 @@ use Rattle.drawing.specs.Measured.{Measured}
 use Rattle.hookup.specs.declared.Options.{Options}
 use Rattle.hookup.specs.Reading.{drawingOf}
 
--- the words are exactly those of a drawing of this station, under this discount
-pub record Form (discount : Discount) (st : Station) (d : Drawing) (sheet : List ℕ) : Type 0 where
+-- the words are exactly those of a drawing of this station on the grid, under what the caller gave
+pub record Form (options : Options) (st : Station) (d : Drawing) (sheet : List ℕ) : Type 0 where
   -- head, part, cable, corner, length, total and price words with their kinds, line numbers, counts of corners and no spare bit, and no word more
-  pub words : sheet ≡ quotedWords discount d
+  pub words : sheet ≡ quotedWords (options .spacing) (options .discount) d
   pub parts : length (d .parts) ≡ st .parts
   pub cables : length (d .routes) ≡ length (st .cables)
   -- 'A cable joins the two parts that its list word names.'
@@ -33,12 +33,16 @@ pub record Form (discount : Discount) (st : Station) (d : Drawing) (sheet : List
 
 -- demand 3, of what the caller gave, a list's words and a sheet's words
 pub record Demand3 (options : Options) (list sheet : List ℕ) : Type 0 where
-  pub form : Form (options .discount) (stationOf list) (drawingOf list sheet) sheet
+  -- 2026-06: what the sheet shows is a drawing on the grid, spaced: 'Every x becomes margin + x × column pitch, y likewise with the row pitch'
+  pub grid : Drawing
+  pub spacing : drawingOf list sheet ≡ spaced (options .spacing) grid
+  pub form : Form options (stationOf list) grid sheet
+  -- 'What holds between two cables', between cable and part and of a cable with itself, of the words in every spacing
   pub meetings : Meets (drawingOf list sheet)
-  pub sizes : Sizes (stationOf list .parts) (length (stationOf list .cables)) (drawingOf list sheet) sheet
-  -- 2026-01: the words 'after the last cable's corners' are the lengths of the lines that the sheet shows, and their total
+  pub sizes : Sizes (options .spacing) (stationOf list .parts) (length (stationOf list .cables)) grid (drawingOf list sheet) sheet
+  -- 2026-01: the words 'after the last cable's corners' are the lengths of the lines that the sheet shows, in grid steps, and their total
   pub lengths :
-      Measured (stationOf list .parts) (length (stationOf list .cables)) (drawingOf list sheet)
+      Measured (options .spacing) (stationOf list .parts) (length (stationOf list .cables)) grid (drawingOf list sheet)
       (lengthsIn (stationOf list .parts) (length (stationOf list .cables)) sheet)
   -- 2026-05: the words 'after the run lengths' are the prices of these lengths, and their total
   pub quote :
@@ -54,12 +58,14 @@ rowsBelow st = oneIf (eqb (degree (st .cables) (st .source)) 4)
 unfoldable pub rowOf : List ℕ → ℕ → ℕ
 rowOf sheet p = secondOf (getD sheet (1 + p) 0)
 
--- of demand 2
-pub record Ordered (list sheet : List ℕ) : Type 0 where
+-- of demand 2, in every spacing
+pub record Ordered (options : Options) (list sheet : List ℕ) : Type 0 where
   -- 'The parts stand in the smallest st-ordering between the two named ends', from the lowest row upward
   pub smallest : Smallest (stationOf list) (partsByRow (stationOf list .parts) sheet)
-  -- 'Rank k stands in row d + k.'
-  pub rows : (k : ℕ) → k < stationOf list .parts → rowOf sheet (getD (partsByRow (stationOf list .parts) sheet) k 0) ≡ rowsBelow (stationOf list) + k
+  -- 'Rank k stands in row d + k' of the grid.
+  pub rows :
+      (k : ℕ) → k < stationOf list .parts
+      → rowOf sheet (getD (partsByRow (stationOf list .parts) sheet) k 0) ≡ rowAt (options .spacing) (rowsBelow (stationOf list) + k)
 
 -- 2026-02: the count returned with a sheet is that of 'all pairs of cables whose lines cross, those that share a part too', in the drawing that its words show
 pub record Crossed (list sheet : List ℕ) (count : ℕ) : Type 0 where

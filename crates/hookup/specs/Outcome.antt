@@ -19,10 +19,10 @@ pub data Outcome : Type 0 where
   drawn : (words : List ℕ) (crossings : ℕ) → Outcome
   sentBack : (check place : ℕ) → Outcome
 
--- 11: 'output shorter than the sheet', 'words of the sheet'; 2026-05: the bill is at its end, 'and check 11 measures it'
+-- 11: 'output shorter than the sheet', 'words of the sheet'; 2026-05: the bill is at its end, 'and check 11 measures it'; 2026-06: the grid's drawing, as it is spaced
 unfoldable pub fitted : Options → Drawing → ℕ → Outcome
 fitted options d room =
-    let words = quotedWords (options .discount) d in
+    let words = quotedWords (options .spacing) (options .discount) d in
     cond (ltb room (length words)) (sentBack 11 (length words)) (drawn words (crossings d))
 
 unfoldable pub orDrawn : Verdict → Outcome → Outcome

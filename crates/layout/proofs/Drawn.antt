@@ -1,41 +1,47 @@
--- The layout of an st-graph as a drawing: its parts and routes, how they meet and cross, its sizes and its words. Assumes nothing.
+-- The layout of an st-graph as a drawing: its parts and routes, how they meet in every spacing and cross, its sizes and its words. Assumes nothing.
 use Prim.Native.Nat.{ℕ, zero, suc, _+_, _-_, _*_, _<_, _≤_}
 use native.Mathlib.Omega.{arith}
 use mathlib.Core.Path.{_≡_, refl, sym, ap, ap₂, subst, subst₂, _∙_}
 use mathlib.Core.Logic.{_⊎_, ⊎-elim}
-use mathlib.Core.List.{List, [], _∷_, _++_, List·Memᴰ, List·Memᴰ·head, List·Memᴰ·tail, Memᴰ·append-left}
+use mathlib.Core.List.{List, [], _∷_, _++_, map, List·Memᴰ, List·Memᴰ·head, List·Memᴰ·tail, Memᴰ·append-left}
 use lib.ListN.{length, getD}
-use Rattle.words.specs.Limits.{mostParts}
-use Rattle.lists.specs.Select.{tabulate, count, sum}
+use Rattle.words.specs.Limits.{mostParts, mostField}
+use Rattle.lists.specs.Select.{tabulate, sum}
 use Rattle.lists.proofs.Select.{getD-mem, getD-tabulate, length-tabulate}
 use Rattle.lists.proofs.Places.{mem-place, first-between-last}
 use Rattle.lists.proofs.Maps.{map-tabulate}
 use Rattle.lists.proofs.Sums.{sum-le}
+use Rattle.lists.proofs.Increasing.{increasing-le}
 use Rattle.order.specs.Graph.{StGraph, size, lower, upper, Ranked}
 use Rattle.order.proofs.Graphs.{EndsOnce, lower-inside, cables-le}
+use Rattle.drawing.specs.declared.spacing.Spacing.{Spacing}
 use Rattle.drawing.specs.Spots.{Spot, origin}
 use Rattle.drawing.specs.Lines.{point, Meetings}
 use Rattle.drawing.specs.Crossing.{linesCross}
 use Rattle.drawing.specs.Drawing.{Route, noRoute, Drawing, spotOf, routePoints, routeAt, pointsAt, Meets, crossPair}
 use Rattle.drawing.specs.Lengths.{lineLength, cableLengths, mostLength}
+use Rattle.drawing.specs.Spacing.{columnAt, rowAt, spacedSpot, spaced, onGrid}
 use Rattle.drawing.specs.Sheet.{sheetWords}
 use Rattle.drawing.specs.Reading.{Ends, noEnds}
-use Rattle.drawing.specs.Counts.{cornerCount, isCorner}
-use Rattle.drawing.specs.Sizes.{Sizes}
+use Rattle.drawing.specs.Counts.{cornerCount}
 use Rattle.drawing.proofs.Renaming.{renamed}
 use Rattle.drawing.proofs.Lengths.{lengths-count, length-at}
 use Rattle.drawing.proofs.LengthWords.{LengthsFit}
-use Rattle.drawing.proofs.ReadBack.{SpotFits, AllFit, DrawingFits}
-use Rattle.drawing.proofs.WordCounts.{words-length, words-corners}
+use Rattle.drawing.proofs.Inside.{Inside}
+use Rattle.drawing.proofs.Spaced.{Increases, grid-increases, parts-spaced, routes-spaced, spot-spaced, first-spaced, last-spaced, points-inside, unspaced}
+use Rattle.drawing.proofs.WordCounts.{words-length}
+use Rattle.drawing.proofs.Sized.{Joins, GridSizes}
 use Rattle.layout.specs.Columns.{columns}
 use Rattle.layout.specs.Points.{turns, pointsOf, inner, cornersOf, bottomRows, topRows, partSpot, course, rankSpot, courseOf}
 use Rattle.layout.specs.Layout.{drawnIn, layout}
 use Rattle.layout.specs.Over.{coursesCross}
-use Rattle.layout.specs.Courses.{CourseFits}
+use Rattle.layout.specs.Courses.{spacedCourse, CourseFits, LengthFits}
 use Rattle.layout.proofs.Turns.{turns-points}
 use Rattle.layout.proofs.ExtraRows.{bottomRows-le, topRows-le}
 use Rattle.layout.proofs.Placed.{facts}
 use Rattle.layout.proofs.Meet.{meetings}
+use Rattle.layout.proofs.Maps.{meetings-map}
+use Rattle.layout.proofs.SpacedCourses.{points-of-spaced}
 use Rattle.layout.proofs.Cross.{linesCross-courses}
 use Rattle.layout.proofs.Sizes.{part-column-below, rising, corners-four, corners-two, spots-within, points-within, columns-count, corners-sum, width-spot, height-spot}
 use Rattle.layout.proofs.LineLengths.{line-most}
@@ -112,23 +118,60 @@ module _ (G : StGraph) (R : Ranked G) where
       (by-rank .two i h) (by-rank .starts i h ∙ sym (first-spot i h)) (λ k e. by-rank .ends i k h e ∙ sym (last-spot i h)))
       ∙ ap (λ (l : List Spot). spotOf d (routeAt d i .first) ∷ (l ++ spotOf d (routeAt d i .last) ∷ [])) (sym (corners-at i h))
 
+  ends-inside : (i : ℕ) → i < size G → Inside (length (layout G .parts)) (routeAt (layout G) i)
+  ends-inside i h = record {
+    first-inside = omega (arith, first-at i h, lower-inside G R i h, parts-count G);
+    last-inside = omega (arith, last-at i h, R .inside i h, parts-count G);
+  }
+
+  -- 2026-06: 'What holds between two cables is shown once for all spacings'
+
+  module _ (s : Spacing) (I : Increases s) where
+    spaced-by-rank :
+        Meetings (G .parts) (size G) (λ k. spacedSpot s (rankSpot G k)) (lower G) (upper G) (λ i. pointsOf (spacedCourse s (courseOf G i)))
+    unfolding rankSpot partSpot courseOf course spacedSpot spacedCourse
+    spaced-by-rank = meetings-map (columnAt s) (rowAt s) (I .columns) (I .rows) G _ _ _ _ _ (facts G R)
+
+    parts-there : length (spaced s (layout G) .parts) ≡ G .parts
+    parts-there = parts-spaced s (layout G) ∙ parts-count G
+
+    routes-there : length (spaced s (layout G) .routes) ≡ size G
+    routes-there = routes-spaced s (layout G) ∙ routes-count G
+
+    on-grid : (i : ℕ) → i < size G → i < length (layout G .routes)
+    on-grid i h = omega (arith, routes-count G)
+
+    first-there : (i : ℕ) → i < size G → routeAt (spaced s (layout G)) i .first ≡ lower G i
+    first-there i h = first-spaced s (layout G) i (on-grid i h) ∙ first-at i h
+
+    last-there : (i : ℕ) → i < size G → routeAt (spaced s (layout G)) i .last ≡ upper G i
+    last-there i h = last-spaced s (layout G) i (on-grid i h) ∙ last-at i h
+
+    points-there : (i : ℕ) → i < size G → pointsOf (spacedCourse s (courseOf G i)) ≡ pointsAt (spaced s (layout G)) i
+    points-there i h =
+        points-of-spaced s I (courseOf G i) ∙ ap (map (spacedSpot s)) (points-at i h) ∙ sym (points-inside s (layout G) i (on-grid i h) (ends-inside i h))
+
+    pub meets-spaced : Meets (spaced s (layout G))
+    meets-spaced =
+        let d : Drawing = spaced s (layout G) in
+        subst₂ (λ (n m : ℕ). Meetings n m (spotOf d) (λ i. routeAt d i .first) (λ i. routeAt d i .last) (pointsAt d)) (sym parts-there) (sym routes-there)
+        (renamed (G .parts) (size G) (λ k. spacedSpot s (rankSpot G k)) (lower G) (upper G) (λ i. pointsOf (spacedCourse s (courseOf G i)))
+        (λ k. k) (spotOf d) (λ i. routeAt d i .first) (λ i. routeAt d i .last) (pointsAt d)
+        (record {
+          inside = λ k h. h;
+          one = λ j k h g e. e;
+          spots = λ k h. spot-spaced s (layout G) k (omega (arith, parts-count G)) ∙ ap (spacedSpot s) (spot-of G k h);
+          first-inside = λ i h. omega (arith, first-there i h, lower-inside G R i h);
+          last-inside = λ i h. omega (arith, last-there i h, R .inside i h);
+          first-rank = first-there;
+          last-rank = last-there;
+          same = points-there;
+        })
+        spaced-by-rank)
+
+  -- and so on the grid
   pub meets : Meets (layout G)
-  meets =
-      subst₂ (λ (n m : ℕ). Meetings n m (spotOf (layout G)) (λ i. routeAt (layout G) i .first) (λ i. routeAt (layout G) i .last) (pointsAt (layout G)))
-      (sym (parts-count G)) (sym (routes-count G))
-      (renamed (G .parts) (size G) (rankSpot G) (lower G) (upper G) line
-      (λ k. k) (spotOf (layout G)) (λ i. routeAt (layout G) i .first) (λ i. routeAt (layout G) i .last) (pointsAt (layout G))
-      (record {
-        inside = λ k h. h;
-        one = λ j k h g e. e;
-        spots = spot-of G;
-        first-inside = λ i h. omega (arith, first-at i h, lower-inside G R i h);
-        last-inside = λ i h. omega (arith, last-at i h, R .inside i h);
-        first-rank = first-at;
-        last-rank = last-at;
-        same = points-at;
-      })
-      by-rank)
+  meets = subst Meets (unspaced (layout G)) (meets-spaced onGrid grid-increases)
 
   -- Crossings
 
@@ -209,50 +252,62 @@ module _ (G : StGraph) (R : Ranked G) where
     rank-inside k h = let w = spots-within G R k h in (omega (arith, w .0, width-is), omega (arith, w .1, height-is))
 
     -- '3m - n + 3 + d + e words', and m + 1 lengths (2026-01)
-    pub words-count : length (sheetWords (layout G)) + G .parts ≡ 4 * size G + 4 + bottomRows G + topRows G
-    words-count = omega (arith, words-length (layout G), parts-count G, routes-count G, corner-count G, corners-sum G R two)
+    pub words-count : (s : Spacing) → length (sheetWords s (layout G)) + G .parts ≡ 4 * size G + 4 + bottomRows G + topRows G
+    words-count s = omega (arith, words-length s (layout G), parts-count G, routes-count G, corner-count G, corners-sum G R two)
 
     -- no line is longer
     pub length-most : (i : ℕ) → i < size G → lineLength (pointsAt (layout G) i) ≤ mostLength (G .parts)
     length-most i h = omega (arith, ap lineLength (points-at i h), line-most G R two i h)
 
-    module _ (most : G .parts ≤ mostParts) where
-      -- Fields
+    -- '2m - 2n + 2 + d + e corners'
+    pub corner-total : cornerCount (layout G .routes) + 2 * G .parts ≡ 2 * size G + 2 + bottomRows G + topRows G
+    corner-total = omega (arith, corner-count G, corners-sum G R two)
 
-      narrow : columns G (G .parts) .count ≤ 258
-      narrow = omega (arith, columns-count G R two, cables-le G R)
+    -- Fields
 
-      low-rise : G .parts + bottomRows G + topRows G ≤ 258
-      low-rise = omega (arith, bottomRows-le G R, topRows-le G R)
+    pub rank-column : (k : ℕ) → k < G .parts → getD (columns G (G .parts) .parts) k 0 ≤ layout G .width
+    rank-column k h = omega (arith, part-column-below G R (G .parts) k h, width-is)
 
-      pub column-fits : (k : ℕ) → k < G .parts → getD (columns G (G .parts) .parts) k 0 < 4096
-      column-fits k h = omega (arith, narrow, part-column-below G R (G .parts) k h)
+    pub rank-row : (k : ℕ) → k < G .parts → bottomRows G + k ≤ layout G .height
+    rank-row k h = omega (arith, height-is)
 
-      turn-fits : (i : ℕ) → i < size G → (s : Spot) → List·Memᴰ s (turns (courseOf G i)) → (s .x < 4096) × (s .y < 4096)
-      turn-fits i h s t = let w = points-within G R i h s (turns-points (courseOf G i) t) in omega (arith, w .0, w .1, narrow, low-rise)
+    turn-inside : (i : ℕ) → i < size G → (p : Spot) → List·Memᴰ p (turns (courseOf G i)) → (p .x ≤ layout G .width) × (p .y ≤ layout G .height)
+    turn-inside i h p t =
+        let w = points-within G R i h p (turns-points (courseOf G i) t) in
+        (omega (arith, w .0, width-is), omega (arith, w .1, height-is))
 
-      pub course-fits : (i : ℕ) → i < size G → CourseFits (courseOf G i)
-      unfolding turns
+    -- the numbers of a course fit their fields where the sheet's head does
+    module _ (s : Spacing) (I : Increases s) (wide : spaced s (layout G) .width ≤ mostField) (high : spaced s (layout G) .height ≤ mostField) where
+      pub column-fits : (x : ℕ) → x ≤ layout G .width → columnAt s x < 4096
+      unfolding spaced
+      column-fits x h = omega (arith, increasing-le (columnAt s) (I .columns) x (layout G .width) h)
+
+      pub row-fits : (y : ℕ) → y ≤ layout G .height → rowAt s y < 4096
+      unfolding spaced
+      row-fits y h = omega (arith, increasing-le (rowAt s) (I .rows) y (layout G .height) h)
+
+      spot-fits : (i : ℕ) → i < size G → (p : Spot) → List·Memᴰ p (turns (courseOf G i)) → (columnAt s (p .x) < 4096) × (rowAt s (p .y) < 4096)
+      spot-fits i h p t = let w = turn-inside i h p t in (column-fits (p .x) (w .0), row-fits (p .y) (w .1))
+
+      pub course-fits : (i : ℕ) → i < size G → CourseFits (spacedCourse s (courseOf G i))
+      unfolding turns spacedCourse spacedSpot
       course-fits i h =
+          let low = spot-fits i h _ (List·Memᴰ·tail (List·Memᴰ·tail (List·Memᴰ·head refl))) in
+          let high = spot-fits i h _ (List·Memᴰ·tail (List·Memᴰ·tail (List·Memᴰ·tail (List·Memᴰ·head refl)))) in
           record {
-            rises = rising G R i h;
-            length = omega (arith, line-most G R two i h);
-            from = turn-fits i h _ (List·Memᴰ·head refl) .0;
-            low = turn-fits i h _ (List·Memᴰ·tail (List·Memᴰ·head refl)) .1;
-            column = turn-fits i h _ (List·Memᴰ·tail (List·Memᴰ·tail (List·Memᴰ·head refl))) .0;
-            high = turn-fits i h _ (List·Memᴰ·tail (List·Memᴰ·tail (List·Memᴰ·tail (List·Memᴰ·head refl)))) .1;
-            to = turn-fits i h _ (List·Memᴰ·tail (List·Memᴰ·tail (List·Memᴰ·tail (List·Memᴰ·tail (List·Memᴰ·head refl))))) .0;
+            rises = I .rows _ _ (rising G R i h);
+            from = spot-fits i h _ (List·Memᴰ·head refl);
+            low = low .1;
+            column = low .0;
+            high = high .1;
+            to = spot-fits i h _ (List·Memᴰ·tail (List·Memᴰ·tail (List·Memᴰ·tail (List·Memᴰ·tail (List·Memᴰ·tail (List·Memᴰ·head refl))))));
           }
 
-      spot-fits : (s : Spot) → (s .x < columns G (G .parts) .count) × (s .y < G .parts + bottomRows G + topRows G) → SpotFits s
-      spot-fits s w = record { x-fits = omega (arith, w .0, narrow); y-fits = omega (arith, w .1, low-rise) }
+    module _ (most : G .parts ≤ mostParts) where
+      pub length-fits : (i : ℕ) → i < size G → LengthFits (courseOf G i)
+      length-fits i h = record { rises = rising G R i h; length = omega (arith, line-most G R two i h) }
 
-      corners-fit : (i : ℕ) → i < size G → AllFit (cornersOf (courseOf G i))
-      corners-fit i h k g =
-          let s : Spot = getD (cornersOf (courseOf G i)) k origin in
-          spot-fits s (points-within G R i h s (corner-point i h s (getD-mem (cornersOf (courseOf G i)) k origin g)))
-
-      lengths-fit : LengthsFit (cableLengths (layout G))
+      pub lengths-fit : LengthsFit (cableLengths (layout G))
       unfolding cableLengths
       lengths-fit = record {
         each = λ i h.
@@ -274,32 +329,21 @@ module _ (G : StGraph) (R : Ranked G) where
       pub ends-length : length (tabulate (size G) (endsOf G)) ≡ size G
       ends-length = length-tabulate (size G) _
 
-      pub fits : DrawingFits (G .parts) (tabulate (size G) (endsOf G)) (layout G)
-      unfolding spotOf routeAt
-      fits = record {
-        width-fits = omega (arith, width-is, narrow);
-        height-fits = omega (arith, height-is, low-rise);
+      pub joins : Joins (G .parts) (tabulate (size G) (endsOf G)) (layout G)
+      joins = record {
         parts-count = parts-count G;
-        parts-fit = λ k h. let g : k < G .parts = omega (arith, parts-count G) in subst SpotFits (sym (spot-of G k g)) (spot-fits _ (spots-within G R k g));
         routes-count = routes-count G ∙ sym ends-length;
-        routes-fit = λ i h.
+        routes = λ i h.
             let g : i < size G = omega (arith, ends-length) in
             let e : getD (tabulate (size G) (endsOf G)) i noEnds ≡ endsOf G i = getD-tabulate (size G) (endsOf G) i noEnds g in
             record {
               first-is = first-at i g ∙ sym (ap (λ (z : Ends). z .first) e);
               last-is = last-at i g ∙ sym (ap (λ (z : Ends). z .last) e);
               few = omega (arith, ap length (corners-at i g), corners-four G R i g);
-              corners-fit = subst AllFit (sym (corners-at i g)) (corners-fit i g);
             };
-        lengths-fit = lengths-fit;
       }
 
-      -- '2m - 2n + 2 + d + e corners'
-      pub corner-words : count isCorner (sheetWords (layout G)) + 2 * G .parts ≡ 2 * size G + 2 + bottomRows G + topRows G
-      corner-words =
-          omega (arith, words-corners (G .parts) (tabulate (size G) (endsOf G)) (layout G) fits (omega (arith, ends-length, few-lines)), corner-count G, corners-sum G R two)
-
-      pub sizes : 3 ≤ G .parts → EndsOnce G → Sizes (G .parts) (size G) (layout G) (sheetWords (layout G))
+      pub sizes : 3 ≤ G .parts → EndsOnce G → GridSizes (G .parts) (size G) (layout G)
       sizes three O = record {
         x-most = λ i k h. subst (λ (l : List Spot). k < length l → point l k .x ≤ layout G .width) (points-at i h) (λ g. inside i k h g .0);
         x-reached = let r = reached (λ s. suc (s .x) ≡ columns G (G .parts) .count) (width-spot G R two) in (r .0, r .1, r .2, r .3, omega (arith, r .4, width-is));
@@ -309,6 +353,6 @@ module _ (G : StGraph) (R : Ranked G) where
         parts-within = λ p h. subst (λ (s : Spot). (s .x ≤ layout G .width) × (s .y ≤ layout G .height)) (sym (spot-of G p h)) (rank-inside p h);
         width = omega (arith, width-is, columns-count G R two);
         height = omega (arith, height-is, bottomRows-le G R, topRows-le G R);
-        corners = omega (arith, corner-words, bottomRows-le G R, topRows-le G R);
+        corners = omega (arith, corner-total, bottomRows-le G R, topRows-le G R);
         bends = λ i h. omega (arith, ap length (corners-at i h), corners-two G R three O i h);
       }

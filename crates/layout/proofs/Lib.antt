@@ -1,4 +1,4 @@
--- Laws of the layout: what its construction establishes (Facts, by Placed), its sizes (Sizes, LineLengths), what follows of meetings (Meet) and crossings (Cross),
+-- Laws of the layout: what its construction establishes (Facts, by Placed), its sizes (Sizes, LineLengths), what follows of meetings (Meet), in every spacing (Maps, SpacedCourses), and crossings (Cross),
 -- and what the code rests on (Connections to Lanes).
 pub mod Facts
 pub mod Ports
@@ -20,6 +20,7 @@ pub mod Line
 pub mod Place
 pub mod Meet
 pub mod Maps
+pub mod SpacedCourses
 pub mod Cross
 pub mod Drawn
 pub mod Computing

@@ -7,8 +7,10 @@ use mathlib.Core.Bool.{cond}
 use lib.ListN.{length, getD}
 use lib.Dec.{eqb}
 use Rattle.order.specs.Graph.{StGraph}
+use Rattle.drawing.specs.declared.spacing.Spacing.{Spacing}
 use Rattle.drawing.specs.Spots.{spotAt}
 use Rattle.drawing.specs.Lengths.{lineLength}
+use Rattle.drawing.specs.Spacing.{columnAt, rowAt, spacedSpot}
 use Rattle.layout.specs.declared.ends.Ends.{Ends}
 use Rattle.layout.specs.declared.courses.Cable.{Cable}
 use Rattle.layout.specs.Columns.{bottomLine, topLine}
@@ -28,15 +30,29 @@ pub record Reaches (n : ℕ) (e : Ends) (c : Cable) : Type 0 where
   pub most : n ≤ mostParts
   pub below : e .«bottom_rows» ≤ 1
 
--- a course goes up, and every number of it that is written fits a 12-bit field, its length too
+-- 2026-06: the course on a spaced sheet
+unfoldable pub spacedCourse : Spacing → Course → Course
+spacedCourse s c = record {
+  from = spacedSpot s (c .from);
+  low = rowAt s (c .low);
+  column = columnAt s (c .column);
+  high = rowAt s (c .high);
+  to = spacedSpot s (c .to);
+}
+
+-- a course goes up, and every number of it fits a 12-bit field
 pub record CourseFits (c : Course) : Type 0 where
   pub rises : c .low < c .high
-  pub length : lineLength (pointsOf c) < 4096
-  pub from : c .from .x < 4096
+  pub from : (c .from .x < 4096) × (c .from .y < 4096)
   pub low : c .low < 4096
   pub column : c .column < 4096
   pub high : c .high < 4096
-  pub to : c .to .x < 4096
+  pub to : (c .to .x < 4096) × (c .to .y < 4096)
+
+-- a course goes up, and its length fits a 12-bit field
+pub record LengthFits (c : Course) : Type 0 where
+  pub rises : c .low < c .high
+  pub length : lineLength (pointsOf c) < 4096
 
 -- the cable's course, where the parts have the columns ps
 unfoldable pub courseBy : List ℕ → Ends → Cable → Course

@@ -35,7 +35,7 @@ unfolding fitted
 fitted-within options d room = go (ltb room (length words)) refl
   where
     words : List ℕ
-    words = quotedWords (options .discount) d
+    words = quotedWords (options .spacing) (options .discount) d
 
     go : (b : Bool) → ltb room (length words) ≡ b → Within room (cond b (sentBack 11 (length words)) (drawn words (crossings d)))
     go true t = tt

@@ -24,6 +24,10 @@ mostWords = 4 * mostCables - mostParts + 4 + 1 + 1
 abbrev pub mostQuotedWords : ℕ
 mostQuotedWords = mostWords + mostCables + 1
 
+-- the greatest number that 'two 12-bit fields' hold each
+abbrev pub mostField : ℕ
+mostField = 4095
+
 -- room for the neighbours of each part
 abbrev pub neighbourPlaces : ℕ
 neighbourPlaces = mostDegree * mostParts

@@ -17,6 +17,9 @@ pub const MOST_WORDS: usize = 4 * MOST_CABLES - MOST_PARTS + 4 + 1 + 1;
 // And with 'm + 1 words' of prices (2026-05).
 pub const MOST_QUOTED_WORDS: usize = MOST_WORDS + MOST_CABLES + 1;
 
+// The greatest number that 'two 12-bit fields' hold each.
+pub const MOST_FIELD: u32 = 4095;
+
 // Room for the neighbours of each part.
 pub const NEIGHBOUR_PLACES: usize = MOST_DEGREE * MOST_PARTS;
 

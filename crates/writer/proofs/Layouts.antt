@@ -1,10 +1,12 @@
 -- What the values of a layout say of its drawing: its parts, its sizes, its courses with their lengths and prices, and which of them cross. Assumes nothing.
-use Prim.Native.Nat.{ℕ, _+_, _-_, _*_, _<_, _≤_}
+use Prim.Native.Nat.{ℕ, _+_, _-_, _*_, _<_, _≤_, max}
 use native.Mathlib.Omega.{arith}
-use mathlib.Core.Path.{_≡_, sym, ap, ap₂, subst, _∙_}
-use mathlib.Core.List.{List}
+use mathlib.Core.Path.{_≡_, refl, sym, ap, ap₂, subst, _∙_}
+use mathlib.Core.List.{List, map}
 use lib.ListN.{length, getD}
 use lib.Seq.{getD-take}
+use borrow.Author.Tests.{lt-ltb, le-ltb}
+use Rattle.lists.specs.declared.Found.the-variants.{At, Nothing}
 use Rattle.lists.proofs.Sums.{sum-le}
 use Rattle.prices.specs.Quote.{cablePrice}
 use Rattle.prices.specs.Values.{longest}
@@ -15,11 +17,15 @@ use Rattle.order.specs.Arrays.{graphIn}
 use Rattle.order.specs.Order.{rankIn}
 use Rattle.order.specs.Ranking.{namesIn, Inverse}
 use Rattle.order.proofs.LineRanks.{rankAt, rank-number}
+use Rattle.words.specs.Limits.{mostField}
+use Rattle.drawing.specs.declared.spacing.Spacing.{Spacing}
 use Rattle.drawing.specs.Spots.{spotAt}
-use Rattle.drawing.specs.Drawing.{Route, spotOf, routeAt, pointsAt, Meets, crossPair}
+use Rattle.drawing.specs.Drawing.{Route, Drawing, spotOf, routeAt, pointsAt, Meets, crossPair}
+use Rattle.drawing.specs.Spacing.{columnAt, rowAt, spacedSpot, spaced}
 use Rattle.drawing.specs.Lengths.{lineLength, cableLengths}
 use Rattle.drawing.specs.Sheet.{routeWords, sheetWords}
 use Rattle.drawing.proofs.Lengths.{lengths-count, length-at}
+use Rattle.drawing.proofs.Spaced.{Increases, passed-13, increases, parts-spaced, spot-spaced, corners-spaced}
 use Rattle.drawing.proofs.Renumbered.{Names, parts-renumbered, spot-renumbered}
 use Rattle.layout.specs.declared.Course as code-course
 use Rattle.layout.specs.declared.Layout.{Layout}
@@ -27,12 +33,13 @@ use Rattle.layout.specs.Columns.{columns}
 use Rattle.layout.specs.Points.{Course, pointsOf, cornersOf, row, partSpot, rankSpot}
 use Rattle.layout.specs.Layout.{drawnIn, layout}
 use Rattle.layout.specs.Over.{coursesCross}
-use Rattle.layout.specs.Courses.{CourseFits}
+use Rattle.layout.specs.Courses.{spacedCourse, CourseFits, LengthFits}
 use Rattle.layout.specs.Arrays.{courseIn, noCourse, IsLayout}
 use Rattle.layout.proofs.Lengths as of-graph
 use Rattle.layout.proofs.ExtraRows.{bottomRows-le, topRows-le}
-use Rattle.layout.proofs.Drawn.{parts-count, routes-count, spot-of, route-at, points-at, meets, pair-crosses, length-most, parts-le, words-count, column-fits, course-fits, fits}
-use Rattle.writer.specs.Values.{layoutIn, numberedIn}
+use Rattle.layout.proofs.SpacedCourses.{corners-of-spaced}
+use Rattle.layout.proofs.Drawn.{parts-count, routes-count, spot-of, route-at, points-at, meets, pair-crosses, length-most, parts-le, words-count, rank-column, rank-row, column-fits, row-fits, course-fits, length-fits}
+use Rattle.writer.specs.Values.{layoutIn, numberedIn, headCheck, Fits}
 use Rattle.writer.proofs.Sections.{lengthBefore}
 
 -- the course of the cable at line i
@@ -42,6 +49,20 @@ courseAt l i = getD (l .courses) i noCourse
 -- What the code knows of a layout that it is handed, by its type.
 abbrev pub AllPlaces : Layout → Type 0
 AllPlaces l = of-graph.AllPlaces (l .graph)
+
+-- Check 14 by the larger of the two head fields
+
+pub head-above : (d : Drawing) {k : ℕ} → k ≡ max (d .width) (d .height) → mostField < k → headCheck d ≡ At k
+unfolding headCheck
+head-above d {k} e h = rw (← e, lt-ltb mostField k h) refl
+
+pub head-within : (d : Drawing) {k : ℕ} → k ≡ max (d .width) (d .height) → k ≤ mostField → headCheck d ≡ Nothing
+unfolding headCheck
+head-within d {k} e h = rw (← e, le-ltb mostField k h) refl
+
+-- a spacing that passed check 13
+spacing-increases : (s : Spacing) {d : Drawing} → Fits s d → Increases s
+spacing-increases s F = increases s (passed-13 s (F .spacing))
 
 module _ (l : Layout) (L : IsLayout l) where
   abbrev G : StGraph
@@ -62,8 +83,17 @@ module _ (l : Layout) (L : IsLayout l) where
   unfolding rankSpot partSpot row
   spot-at k h = spot-of G k h ∙ ap₂ spotAt (column-at k h) (ap (λ (d : ℕ). d + k) (sym (L .bottom)))
 
-  pub column-small : (k : ℕ) → k < l .graph .parts → getD (l .columns .parts) k 0 < 4096
-  column-small k h = omega (arith, column-fits G ranked (L .fits .least) (L .fits .most) k h, column-at k h)
+  -- a part's spot fits as it is spaced
+  pub spot-small :
+      (s : Spacing) → Fits s (layoutIn l) → (k : ℕ) → k < l .graph .parts
+      → (columnAt s (getD (l .columns .parts) k 0) ≤ mostField) × (rowAt s (l .«bottom_rows» + k) ≤ mostField)
+  spot-small s F k h =
+      let I = spacing-increases s F in
+      let x : getD (l .columns .parts) k 0 ≤ layoutIn l .width = omega (arith, rank-column G ranked (L .fits .least) k h, column-at k h) in
+      let y : l .«bottom_rows» + k ≤ layoutIn l .height = omega (arith, rank-row G ranked (L .fits .least) k h, L .bottom) in (
+        omega (arith, column-fits G ranked (L .fits .least) s I (F .width) (F .height) _ x),
+        omega (arith, row-fits G ranked (L .fits .least) s I (F .width) (F .height) _ y),
+      )
 
   pub bottom-small : l .«bottom_rows» ≤ 1
   bottom-small = omega (arith, L .bottom, bottomRows-le G ranked)
@@ -83,8 +113,8 @@ module _ (l : Layout) (L : IsLayout l) where
 
     -- Sizes
 
-    pub word-count : length (sheetWords (layoutIn l)) + l .graph .parts ≡ 4 * l .graph .cables + 4 + l .«bottom_rows» + l .«top_rows»
-    word-count = omega (arith, words-count G ranked (L .fits .least), lines, L .bottom, L .top)
+    pub word-count : (s : Spacing) → length (sheetWords s (layoutIn l)) + l .graph .parts ≡ 4 * l .graph .cables + 4 + l .«bottom_rows» + l .«top_rows»
+    word-count s = omega (arith, words-count G ranked (L .fits .least) s, lines, L .bottom, L .top)
 
     pub parts-few : l .graph .parts ≤ l .graph .cables + 1
     parts-few = omega (arith, parts-le G ranked (L .fits .least), lines)
@@ -97,34 +127,39 @@ module _ (l : Layout) (L : IsLayout l) where
     unfolding layout drawnIn
     height-is = ap₂ (λ (d e : ℕ). l .graph .parts - 1 + d + e) (sym (L .bottom)) (sym (L .top))
 
-    pub width-small : l .graph .cables + 1 - l .graph .parts < 4096
-    width-small = omega (arith, width-is, fits G ranked (L .fits .least) (L .fits .most) .width-fits)
-
-    pub height-small : l .graph .parts - 1 + l .«bottom_rows» + l .«top_rows» < 4096
-    height-small = omega (arith, height-is, fits G ranked (L .fits .least) (L .fits .most) .height-fits)
-
     -- Cables by line
 
     pub route-count : length (layoutIn l .routes) ≡ l .graph .cables
     route-count = routes-count G ∙ lines
 
-    pub course-small : (i : ℕ) → i < l .graph .cables → CourseFits (courseIn (courseAt l i))
-    course-small i h =
-        subst (λ (c : Course). CourseFits c) (sym (L .courses i h)) (course-fits G ranked (L .fits .least) (L .fits .most) i (inside i h))
+    -- as it is spaced
+    module _ (s : Spacing) (F : Fits s (layoutIn l)) where
+      pub course-small : (i : ℕ) → i < l .graph .cables → CourseFits (spacedCourse s (courseIn (courseAt l i)))
+      course-small i h =
+          subst (λ (c : Course). CourseFits (spacedCourse s c)) (sym (L .courses i h))
+          (course-fits G ranked (L .fits .least) s (spacing-increases s F) (F .width) (F .height) i (inside i h))
 
-    pub route-is :
-        (line i : ℕ) → i < l .graph .cables → routeWords line (cornersOf (courseIn (courseAt l i))) ≡ routeWords line (routeAt (layoutIn l) i .corners)
-    route-is line i h =
-        ap (routeWords line) (ap cornersOf (L .courses i h) ∙ sym (ap (λ (r : Route). r .corners) (route-at G i (inside i h))))
+      pub route-is :
+          (line i : ℕ) → i < l .graph .cables
+          → routeWords line (cornersOf (spacedCourse s (courseIn (courseAt l i)))) ≡ routeWords line (routeAt (spaced s (layoutIn l)) i .corners)
+      route-is line i h =
+          ap (routeWords line)
+          (corners-of-spaced s (spacing-increases s F) (courseIn (courseAt l i))
+          ∙ ap (map (spacedSpot s)) (ap cornersOf (L .courses i h) ∙ sym (ap (λ (r : Route). r .corners) (route-at G i (inside i h))))
+          ∙ sym (corners-spaced s (layoutIn l) i (omega (arith, route-count))))
 
     -- Lengths
+
+    pub length-small : (i : ℕ) → i < l .graph .cables → LengthFits (courseIn (courseAt l i))
+    length-small i h =
+        subst (λ (c : Course). LengthFits c) (sym (L .courses i h)) (length-fits G ranked (L .fits .least) (L .fits .most) i (inside i h))
 
     pub length-is :
         (i : ℕ) → i < l .graph .cables → lineLength (pointsOf (courseIn (courseAt l i))) ≡ lineLength (pointsAt (layoutIn l) i)
     length-is i h = ap (λ (c : Course). lineLength (pointsOf c)) (L .courses i h) ∙ ap lineLength (points-at G ranked i (inside i h))
 
     pub lengths-small : (k : ℕ) → k ≤ l .graph .cables → lengthBefore (layoutIn l) k ≤ k * 4095
-    lengths-small k h = sum-le _ k 4095 (λ i g. let f : i < l .graph .cables = omega arith in omega (arith, length-is i f, course-small i f .length))
+    lengths-small k h = sum-le _ k 4095 (λ i g. let f : i < l .graph .cables = omega arith in omega (arith, length-is i f, length-small i f .length))
 
     -- Prices
 
@@ -158,8 +193,11 @@ module _ (l : Layout) (L : IsLayout l) where
   -- Parts by number
 
   module _ (r : Ranking) where
-    pub number-count : length (numberedIn r l .parts) ≡ l .graph .parts
-    number-count = parts-renumbered (namesIn (l .graph .parts) r) (layoutIn l) ∙ part-count
+    on-grid : length (numberedIn r l .parts) ≡ l .graph .parts
+    on-grid = parts-renumbered (namesIn (l .graph .parts) r) (layoutIn l) ∙ part-count
+
+    pub number-count : (s : Spacing) → length (spaced s (numberedIn r l) .parts) ≡ l .graph .parts
+    number-count s = parts-spaced s (numberedIn r l) ∙ on-grid
 
     module _ (I : Inverse (l .graph .parts) r) where
       -- no two parts have one name
@@ -176,8 +214,10 @@ module _ (l : Layout) (L : IsLayout l) where
       rank-below p h = omega (arith, rank-number (r .rank) p, I .below p h)
 
       -- part p stands where its rank does
-      pub number-spot : (p : ℕ) → p < l .graph .parts → spotOf (layoutIn l) (rankAt (r .rank) p) ≡ spotOf (numberedIn r l) p
+      pub number-spot :
+          (s : Spacing) (p : ℕ) → p < l .graph .parts → spacedSpot s (spotOf (layoutIn l) (rankAt (r .rank) p)) ≡ spotOf (spaced s (numberedIn r l)) p
       unfolding rankIn
-      number-spot p h =
-          ap (spotOf (layoutIn l)) (rank-number (r .rank) p ∙ I .rank p h)
-          ∙ sym (spot-renumbered (namesIn (l .graph .parts) r) (layoutIn l) p (omega (arith, part-count)))
+      number-spot s p h =
+          ap (λ (k : ℕ). spacedSpot s (spotOf (layoutIn l) k)) (rank-number (r .rank) p ∙ I .rank p h)
+          ∙ sym (ap (spacedSpot s) (spot-renumbered (namesIn (l .graph .parts) r) (layoutIn l) p (omega (arith, part-count))))
+          ∙ sym (spot-spaced s (numberedIn r l) p (omega (arith, on-grid)))

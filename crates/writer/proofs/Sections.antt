@@ -12,28 +12,33 @@ use Rattle.lists.specs.Stores.{Stored}
 use Rattle.lists.proofs.Sums.{sum-tabulate-zero, sum-tabulate}
 use Rattle.lists.proofs.Stores.{stored-append, stored-as}
 use Rattle.words.specs.Words.{sheetHeadWord, cableLengthWord, totalLengthWord}
+use Rattle.drawing.specs.declared.spacing.Spacing.{Spacing}
 use Rattle.drawing.specs.Spots.{origin}
 use Rattle.drawing.specs.Drawing.{Route, noRoute, Drawing, spotOf, routeAt, pointsAt, Meets, renumbered}
 use Rattle.drawing.specs.Lengths.{lineLength, cableLengths}
-use Rattle.drawing.specs.Sheet.{partSpotWord, routeWords, routesWords, lengthWords, headSection, partsSection, cablesSection, lengthsSection, sheetWords}
+use Rattle.drawing.specs.Sheet.{partSpotWord, routeWords, routesWords, lengthWords, headSection, partsSection, cablesSection, lengthsSection, drawingWords, sheetWords}
+use Rattle.drawing.specs.Spacing.{spacedRoute, spaced}
 use Rattle.drawing.proofs.Lengths.{lengths-count, length-at}
 use Rattle.drawing.proofs.LengthWords.{lengthWords-length, record-at, total-at}
 use Rattle.drawing.proofs.Renumbered.{Names, lengths-renumbered}
 
 -- Cables by their corners
 
-kept-words : (f : Route → Route) → ((r : Route) → f r .corners ≡ r .corners) → (line : ℕ) (rs : List Route) → routesWords line (map f rs) ≡ routesWords line rs
+kept-words :
+    (f g : Route → Route) → ((r : Route) → f (g r) .corners ≡ f r .corners) → (line : ℕ) (rs : List Route)
+    → routesWords line (map f (map g rs)) ≡ routesWords line (map f rs)
 unfolding routesWords
-kept-words f h line [] = refl
-kept-words f h line (r ∷ rs) = ap₂ (λ (a b : List ℕ). a ++ b) (ap (routeWords line) (h r)) (kept-words f h (line + 1) rs)
+kept-words f g h line [] = refl
+kept-words f g h line (r ∷ rs) = ap₂ (λ (a b : List ℕ). a ++ b) (ap (routeWords line) (h r)) (kept-words f g h (line + 1) rs)
 
-cables-renumbered : (names : List ℕ) (d : Drawing) → cablesSection (renumbered names d) ≡ cablesSection d
-unfolding cablesSection renumbered
-cables-renumbered names d = kept-words _ (λ r. refl) 0 (d .routes)
+module _ (s : Spacing) (names : List ℕ) (d : Drawing) where
+  cables-renumbered : cablesSection (spaced s (renumbered names d)) ≡ cablesSection (spaced s d)
+  unfolding cablesSection spaced spacedRoute renumbered
+  cables-renumbered = kept-words (spacedRoute s) _ (λ r. refl) 0 (d .routes)
 
-head-renumbered : (names : List ℕ) (d : Drawing) → headSection (renumbered names d) ≡ headSection d
-unfolding headSection renumbered
-head-renumbered names d = refl
+  head-renumbered : headSection (spaced s (renumbered names d)) ≡ headSection (spaced s d)
+  unfolding headSection spaced renumbered
+  head-renumbered = refl
 
 module _ (d : Drawing) where
   pub head-as : {w h v : ℕ} → d .width ≡ w → d .height ≡ h → v ≡ sheetHeadWord w h → v ∷ [] ≡ headSection d
@@ -101,16 +106,17 @@ module _ (d : Drawing) where
 
 -- The sections one behind the other
 
-module _ (names : List ℕ) (d : Drawing) (N : Names (length (d .parts)) names) (M : Meets d) where
+module _ (s : Spacing) (names : List ℕ) (d : Drawing) (N : Names (length (d .parts)) names) (M : Meets d) where
   section-renumbered : lengthsSection (renumbered names d) ≡ lengthsSection d
   unfolding lengthsSection
   section-renumbered = ap lengthWords (lengths-renumbered names d N M)
 
   pub sections-stored :
-      {l₀ l₁ l₂ l₃ l₄ head : List ℕ} {a₁ a₂ a₃ a₄ : ℕ} → head ≡ headSection d
-      → Stored l₀ 0 head l₁ a₁ → Stored l₁ a₁ (partsSection (renumbered names d)) l₂ a₂ → Stored l₂ a₂ (cablesSection d) l₃ a₃
-      → Stored l₃ a₃ (lengthsSection d) l₄ a₄ → Stored l₀ 0 (sheetWords (renumbered names d)) l₄ a₄
-  unfolding sheetWords
+      {l₀ l₁ l₂ l₃ l₄ head : List ℕ} {a₁ a₂ a₃ a₄ : ℕ} → head ≡ headSection (spaced s d)
+      → Stored l₀ 0 head l₁ a₁ → Stored l₁ a₁ (partsSection (spaced s (renumbered names d))) l₂ a₂ → Stored l₂ a₂ (cablesSection (spaced s d)) l₃ a₃
+      → Stored l₃ a₃ (lengthsSection d) l₄ a₄ → Stored l₀ 0 (sheetWords s (renumbered names d)) l₄ a₄
+  unfolding sheetWords drawingWords
   sections-stored e S T U W =
-      stored-append (stored-as (e ∙ sym (head-renumbered names d)) S)
-      (stored-append T (stored-append (stored-as (sym (cables-renumbered names d)) U) (stored-as (sym section-renumbered) W)))
+      stored-append
+      (stored-append (stored-as (e ∙ sym (head-renumbered s names d)) S) (stored-append T (stored-as (sym (cables-renumbered s names d)) U)))
+      (stored-as (sym section-renumbered) W)

@@ -5,7 +5,7 @@ ghost use Rattle.drawing.specs.Lengths as drawn;
 ghost use Rattle.drawing.specs.Lengths.{lineLength};
 ghost use Rattle.layout.specs.Points.{pointsOf};
 ghost use Rattle.layout.specs.Arrays.{courseIn};
-ghost use Rattle.layout.specs.Courses.{CourseFits};
+ghost use Rattle.layout.specs.Courses.{LengthFits};
 
 // The steps between two columns, or between two rows.
 fn steps(a: u16, b: u16) -> u16
@@ -16,7 +16,7 @@ fn steps(a: u16, b: u16) -> u16
 
 // The length of a cable's line: level to its own column and from it, upright in it and at its ends.
 pub fn line_length(c: Course) -> u16
-    requires { ⌜ CourseFits (courseIn c) ⌝ }
+    requires { ⌜ LengthFits (courseIn c) ⌝ }
     ensures { λ r. ⌜ r ≡ lineLength (pointsOf (courseIn c)) ⌝ }
 {
     let level = steps(c.from.x, c.column) + steps(c.column, c.to.x);

@@ -1,5 +1,6 @@
-// The words and the crossings of a layout, and what its cables cost.
+// The words of a layout as they are spaced, its crossings, and what its cables cost.
 pub mod crossings;
 pub mod lengths;
 pub mod quote;
 pub mod sheet;
+pub mod spacing;

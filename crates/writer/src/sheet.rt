@@ -1,5 +1,10 @@
-// A sheet's words, one behind the other: 'its head, the parts by number, then the cables by line, each followed by its corners'; then the lengths (2026-01).
+// A sheet's words, one behind the other: 'its head, the parts by number, then the cables by line, each followed by its corners', as they are spaced (2026-06); then the lengths (2026-01).
 use crate::lengths::line_length;
+use crate::spacing::head_of;
+use crate::spacing::space_course;
+use drawing::Spot;
+use drawing::spacing::Spacing;
+use drawing::spacing::space_spot;
 use layout::Course;
 use layout::Layout;
 use order::Ranking;
@@ -14,17 +19,19 @@ ghost use Rattle.lists.specs.Select.{oneIf, consIf};
 ghost use Rattle.lists.specs.Stores.{Stored};
 ghost use Rattle.words.specs.Words.{cornerWord};
 ghost use Rattle.order.specs.Ranking.{Inverse};
+ghost use Rattle.drawing.specs.declared.spacing.Spacing as given;
 ghost use Rattle.drawing.specs.Drawing.{spotOf};
+ghost use Rattle.drawing.specs.Spacing.{spacedSpot, spaced};
 ghost use Rattle.drawing.specs.Sheet.{partSpotWord, cornerSpotWord, routeWords, headSection, partsSection, cablesSection, lengthsSection, sheetWords};
 ghost use Rattle.layout.specs.Points.{cornersOf};
 ghost use Rattle.layout.specs.Arrays.{courseIn, IsLayout};
 ghost use Rattle.layout.specs.Courses.{CourseFits};
-ghost use Rattle.writer.specs.Values.{layoutIn, numberedIn};
+ghost use Rattle.writer.specs.Values.{layoutIn, numberedIn, Fits};
 
-// '3m - n + 3 + d + e words', and m + 1 lengths (2026-01).
+// '3m - n + 3 + d + e words', and m + 1 lengths (2026-01), in every spacing.
 pub fn count_words(layout: Layout) -> usize
     requires { ⌜ IsLayout layout ⌝ }
-    ensures { λ r. ⌜ r ≡ length (sheetWords (layoutIn layout)) ⌝ }
+    ensures { λ r. ⌜ ((s : given.Spacing) → r ≡ length (sheetWords s (layoutIn layout))) ⌝ }
 {
     let n = layout.graph.parts;
     let m = layout.graph.cables;
@@ -40,39 +47,52 @@ pub fn put(sheet: &mut [u32], at: usize, w: Word) -> usize
     at + 1
 }
 
-// 'The sheet has m - n + 1 as width, n - 1 + d + e as height'.
-fn head_word(layout: Layout) -> Word
+// The head, which fits its fields.
+fn head_word(layout: Layout, spacing: Spacing) -> Word
     requires { ⌜ IsLayout layout ⌝ }
-    ensures { λ r. ⌜ r .0 ∷ [] ≡ headSection (layoutIn layout) ⌝ }
+    requires { ⌜ Fits spacing (layoutIn layout) ⌝ }
+    ensures { λ r. ⌜ r .0 ∷ [] ≡ headSection (spaced spacing (layoutIn layout)) ⌝ }
 {
-    let n = layout.graph.parts as u16;
-    let m = layout.graph.cables as u16;
-    Word::sheet_head(m + 1 - n, n - 1 + layout.bottom_rows + layout.top_rows)
+    let head = head_of(layout, spacing);
+    Word::sheet_head(head.width as u16, head.height as u16)
 }
 
-// The word of the part of rank k: 'Rank k stands in row d + k.'
-fn part_word(layout: Layout, k: Rank) -> Word
+// The word of the part of rank k: on the grid 'Rank k stands in row d + k.'
+fn part_word(layout: Layout, spacing: Spacing, k: Rank) -> Word
     requires { ⌜ IsLayout layout ⌝ }
+    requires { ⌜ Fits spacing (layoutIn layout) ⌝ }
     requires { ⌜ k .0 < layout .graph .parts ⌝ }
-    ensures { λ r. ⌜ r .0 ≡ partSpotWord (spotOf (layoutIn layout) (k .0)) ⌝ }
+    ensures { λ r. ⌜ r .0 ≡ partSpotWord (spacedSpot spacing (spotOf (layoutIn layout) (k .0))) ⌝ }
 {
     let columns = layout.columns;
     let rank = k.number();
-    Word::part(columns.parts[rank as usize], layout.bottom_rows + rank)
+    let spot = Spot {
+        x: columns.parts[rank as usize],
+        y: layout.bottom_rows + rank,
+    };
+    let there = space_spot(spot, spacing);
+    Word::part(there.x, there.y)
 }
 
 // The parts by number.
-fn put_parts(sheet: &mut [u32], at: usize, ranking: Ranking, layout: Layout) -> usize
+fn put_parts(
+    sheet: &mut [u32],
+    at: usize,
+    ranking: Ranking,
+    layout: Layout,
+    spacing: Spacing,
+) -> usize
     requires { ⌜ IsLayout layout ⌝ }
+    requires { ⌜ Fits spacing (layoutIn layout) ⌝ }
     requires { ⌜ Inverse (layout .graph .parts) ranking ⌝ }
     requires { ⌜ at + layout .graph .parts ≤ length (now sheet) ⌝ }
-    ensures { λ r. ⌜ Stored (now (sheet .entry)) at (partsSection (numberedIn ranking layout)) (now (sheet .exit)) r ⌝ }
+    ensures { λ r. ⌜ Stored (now (sheet .entry)) at (partsSection (spaced spacing (numberedIn ranking layout))) (now (sheet .exit)) r ⌝ }
 {
     let n = layout.graph.parts;
     let mut next = at;
     let mut p = 0;
     while p < n {
-        next = put(sheet, next, part_word(layout, ranking.rank[p]));
+        next = put(sheet, next, part_word(layout, spacing, ranking.rank[p]));
         p += 1;
     }
     next
@@ -128,16 +148,18 @@ fn put_cable(sheet: &mut [u32], at: usize, line: u16, c: Course) -> usize
 }
 
 // The cables by line.
-fn put_cables(sheet: &mut [u32], at: usize, layout: Layout) -> usize
+fn put_cables(sheet: &mut [u32], at: usize, layout: Layout, spacing: Spacing) -> usize
     requires { ⌜ IsLayout layout ⌝ }
-    requires { ⌜ at + length (cablesSection (layoutIn layout)) ≤ length (now sheet) ⌝ }
-    ensures { λ r. ⌜ Stored (now (sheet .entry)) at (cablesSection (layoutIn layout)) (now (sheet .exit)) r ⌝ }
+    requires { ⌜ Fits spacing (layoutIn layout) ⌝ }
+    requires { ⌜ at + length (cablesSection (spaced spacing (layoutIn layout))) ≤ length (now sheet) ⌝ }
+    ensures { λ r. ⌜ Stored (now (sheet .entry)) at (cablesSection (spaced spacing (layoutIn layout))) (now (sheet .exit)) r ⌝ }
 {
     let m = layout.graph.cables;
     let mut next = at;
     let mut line = 0;
     while line < m {
-        next = put_cable(sheet, next, line as u16, layout.courses[line]);
+        let course = space_course(layout.courses[line], spacing);
+        next = put_cable(sheet, next, line as u16, course);
         line += 1;
     }
     next
@@ -163,14 +185,15 @@ fn put_lengths(sheet: &mut [u32], at: usize, layout: Layout) -> usize
 }
 
 // All words of a sheet, from the front.
-pub fn put_sheet(sheet: &mut [u32], ranking: Ranking, layout: Layout) -> usize
+pub fn put_sheet(sheet: &mut [u32], ranking: Ranking, layout: Layout, spacing: Spacing) -> usize
     requires { ⌜ IsLayout layout ⌝ }
+    requires { ⌜ Fits spacing (layoutIn layout) ⌝ }
     requires { ⌜ Inverse (layout .graph .parts) ranking ⌝ }
-    requires { ⌜ length (sheetWords (layoutIn layout)) ≤ length (now sheet) ⌝ }
-    ensures { λ r. ⌜ Stored (now (sheet .entry)) 0 (sheetWords (numberedIn ranking layout)) (now (sheet .exit)) r ⌝ }
+    requires { ⌜ length (sheetWords spacing (layoutIn layout)) ≤ length (now sheet) ⌝ }
+    ensures { λ r. ⌜ Stored (now (sheet .entry)) 0 (sheetWords spacing (numberedIn ranking layout)) (now (sheet .exit)) r ⌝ }
 {
-    let parts = put(sheet, 0, head_word(layout));
-    let cables = put_parts(sheet, parts, ranking, layout);
-    let lengths = put_cables(sheet, cables, layout);
+    let parts = put(sheet, 0, head_word(layout, spacing));
+    let cables = put_parts(sheet, parts, ranking, layout, spacing);
+    let lengths = put_cables(sheet, cables, layout, spacing);
     put_lengths(sheet, lengths, layout)
 }

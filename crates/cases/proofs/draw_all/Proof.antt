@@ -30,6 +30,12 @@ shared-slice-read-k c = search needs
 cast-k : tie.Need-cast-k Inv-loop μ-loop
 cast-k c = omega (arith, c .shared-slice-known2 .given (c .before .before .before .loop .at))
 
+add-spacing-at : tie.Need-add-spacing-at Inv-loop μ-loop
+add-spacing-at c = search needs
+
+spacing-at-requires : tie.Need-spacing-at-requires Inv-loop μ-loop
+spacing-at-requires c κs = search needs
+
 add-options-of : tie.Need-add-options-of Inv-loop μ-loop
 add-options-of c = search needs
 
@@ -99,6 +105,8 @@ draw-all-spec =
     mul-k
     shared-slice-read-k
     cast-k
+    add-spacing-at
+    spacing-at-requires
     add-options-of
     mul-options-of
     shared-slice-read-options-of

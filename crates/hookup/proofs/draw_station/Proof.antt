@@ -1,21 +1,29 @@
--- The stages' values in a row are the sheet of the list's station, or its words are too many. Assumes nothing.
+-- The stages' values in a row are the sheet of the list's station, or its numbers are too large, or its words too many. Assumes nothing.
 use native.Mathlib.Omega.{arith}
-use mathlib.Core.Path.{_≡_, ap, _∙_}
+use mathlib.Core.Path.{_≡_, sym, ap, _∙_}
 use borrow.Author.Needs.{needs}
+use Rattle.lists.specs.declared.Found.the-variants.{Nothing}
 use Rattle.station.specs.Station.{stationOf}
 use Rattle.station.specs.Checks.{Clear}
 use Rattle.order.specs.Arrays.{graphIn}
 use Rattle.order.specs.Checks.{allChecks}
 use Rattle.order.specs.Ends.{graphOf}
-use Rattle.hookup.proofs.CallChecks.{list-clear, discount-clear}
-use Rattle.hookup.proofs.Stages.{graph-fits, words-are, crossings-counted, inverse, sheet-is}
-use Rattle.hookup.proofs.Answers.{drew-short, drew-sheet}
+use Rattle.drawing.specs.Spacing.{spaced, check13, check14}
+use Rattle.writer.specs.Values.{layoutIn, headCheck}
+use Rattle.hookup.specs.Checks.{callChecks}
+use Rattle.hookup.specs.Drawing.{drawing}
+use Rattle.hookup.proofs.CallChecks.{list-clear, discount-clear, spacing-clear, call-clear}
+use Rattle.hookup.proofs.Stages.{graph-fits, words-are, fourteen-is, writable, crossings-counted, inverse, sheet-is}
+use Rattle.hookup.proofs.Answers.{drew-too-large, drew-short, drew-sheet}
 use Rattle.hookup.proofs.draw_station.Statement.{statement}
 use Rattle.hookup.proofs.draw_station.Tie as tie
 
--- the list passed checks 1 to 10
+-- the list passed checks 1 to 10, and the spacing 13
 clear : (s : tie.Start) → Clear allChecks (s .args .list .now)
 clear s = list-clear (s .args .options) (s .args .list .now) (s .pre)
+
+good : (s : tie.Start) → check13 (s .args .options .spacing) ≡ Nothing
+good s = spacing-clear (s .args .options) (s .args .list .now) (s .pre)
 
 -- from behind the layout back to the start
 abbrev start : tie.After-lay-out → tie.Start
@@ -24,6 +32,21 @@ start l = l .before .before .before .before .before
 -- the layout is of the list's cables in ranks
 graph-is : (l : tie.After-lay-out) → graphIn (l .lay-out .result .graph) ≡ graphOf (stationOf (start l .args .list .now))
 graph-is l = ap graphIn (l .lay-out .ensures .0) ∙ l .before .rank-cables .ensures .0
+
+-- what the code tests of its head is check 14
+fourteen : (l : tie.After-lay-out) → let s = start l in
+    headCheck (spaced (s .args .options .spacing) (layoutIn (l .lay-out .result))) ≡ check14 (spaced (s .args .options .spacing) (drawing (stationOf (s .args .list .now))))
+fourteen l = let s = start l in fourteen-is _ (clear s) (l .lay-out .result .graph) (graph-is l) (s .args .options .spacing) (good s)
+
+-- once it finds nothing
+abbrev laid : tie.After-enum-told → tie.After-lay-out
+laid c = c .before .before .before .before
+
+none-14 : (c : tie.After-enum-told) → let s = start (laid c) in check14 (spaced (s .args .options .spacing) (drawing (stationOf (s .args .list .now)))) ≡ Nothing
+none-14 c = sym (fourteen (laid c)) ∙ sym (c .before .before .check14 .ensures) ∙ c .enum-told .given .1
+
+passed : (c : tie.After-enum-told) → let s = start (laid c) in Clear (callChecks (s .args .options)) (s .args .list .now)
+passed c = let s = start (laid c) in call-clear (s .args .options) _ (s .pre) (none-14 c)
 
 rank-parts-requires : tie.Need-rank-parts-requires
 rank-parts-requires c κs = clear (c .before .before)
@@ -34,45 +57,72 @@ rank-cables-requires c κs = (clear (c .before .before .before), c .rank-parts .
 lay-out-requires : tie.Need-lay-out-requires
 lay-out-requires c κs = graph-fits _ (clear (c .before .before .before .before)) (c .rank-cables .ensures .0) (c .rank-cables .ensures .1)
 
-count-quoted-requires : tie.Need-count-quoted-requires
-count-quoted-requires c κs = search needs
+check14-requires : tie.Need-check14-requires
+check14-requires c κs = let l = c .before in (l .lay-out .ensures .1, good (start l))
+
+enum-known-place : tie.Need-enum-known-place
+enum-known-place c = search needs
 
 returns : tie.Need-returns
 returns c =
-    let k = c .before in
-    let l = k .before in
+    let k = c .before .before .before in
+    let l = k .before .before in
     let s = start l in
-    drew-short (s .args .options) _ _ _ (s .pre) (c .if1 .taken)
-    (k .count-quoted .ensures ∙ words-are _ (clear s) (l .lay-out .result .graph) (graph-is l) (s .args .options .discount))
+    drew-too-large (s .args .options) _ _ _ (s .pre) (sym (fourteen l) ∙ sym (k .check14 .ensures) ∙ c .before .place .given .1)
+
+enum-told : tie.Need-enum-told
+enum-told c = search needs
+
+count-quoted-requires : tie.Need-count-quoted-requires
+count-quoted-requires c κs = laid c .lay-out .ensures .1
+
+returns-2 : tie.Need-returns-2
+returns-2 c =
+    let k = c .before in
+    let t = k .before in
+    let l = laid t in
+    let s = start l in
+    drew-short (s .args .options) _ _ _ (passed t) (c .if1 .taken)
+    (k .count-quoted .ensures (s .args .options .spacing) ∙ words-are _ (clear s) (l .lay-out .result .graph) (graph-is l) (s .args .options .spacing) (s .args .options .discount))
 
 put-quoted-requires : tie.Need-put-quoted-requires
 put-quoted-requires c κs =
     let k = c .before .before in
-    let l = k .before in
-    let s = start l in (
+    let t = k .before in
+    let l = laid t in
+    let s = start l in
+    let g = l .lay-out .result .graph in (
       l .lay-out .ensures .1,
       (
-        inverse _ (clear s) (l .lay-out .result .graph) (graph-is l) (l .before .before .rank-parts .ensures),
-        (discount-clear (s .args .options) (s .args .list .now) (s .pre), omega (arith, k .count-quoted .ensures, c .before .if1 .left)),
+        inverse _ (clear s) g (graph-is l) (l .before .before .rank-parts .ensures),
+        (
+          writable _ (clear s) g (graph-is l) (s .args .options .spacing) (good s) (none-14 t),
+          (
+            discount-clear (s .args .options) (s .args .list .now) (s .pre),
+            omega (arith, k .count-quoted .ensures (s .args .options .spacing), c .before .if1 .left),
+          ),
+        ),
       ),
     )
 
 count-crossings-requires : tie.Need-count-crossings-requires
-count-crossings-requires c κs = search needs
+count-crossings-requires c κs = laid (c .before .before .before .before .before .before) .lay-out .ensures .1
 
 same-length : tie.Need-same-length
 same-length c = search needs
 
-returns-2 : tie.Need-returns-2
-returns-2 c =
+returns-3 : tie.Need-returns-3
+returns-3 c =
     let p = c .before .before .before in
     let k = p .before .before .before in
-    let l = k .before in
+    let t = k .before in
+    let l = laid t in
     let s = start l in
     let g = l .lay-out .result .graph in
+    let spacing = s .args .options .spacing in
     let discount = s .args .options .discount in
-    drew-sheet (s .args .options) _ _ _ _ _ _ (s .pre) (sheet-is _ (clear s) g (graph-is l) (l .before .before .rank-parts .ensures) discount)
-    (omega (arith, k .count-quoted .ensures, words-are (s .args .list .now) (clear s) g (graph-is l) discount, p .before .before .if1 .left)) (p .put-quoted .ensures)
+    drew-sheet (s .args .options) _ _ _ _ _ _ (passed t) (sheet-is _ (clear s) g (graph-is l) (l .before .before .rank-parts .ensures) spacing discount)
+    (omega (arith, k .count-quoted .ensures spacing, words-are (s .args .list .now) (clear s) g (graph-is l) spacing discount, p .before .before .if1 .left)) (p .put-quoted .ensures)
     (c .count-crossings .ensures ∙ crossings-counted _ (clear s) g (graph-is l))
 
 pub draw-station-spec : {M : Type 1} → statement M
@@ -82,9 +132,13 @@ draw-station-spec =
     rank-parts-requires
     rank-cables-requires
     lay-out-requires
-    count-quoted-requires
+    check14-requires
+    enum-known-place
     returns
+    enum-told
+    count-quoted-requires
+    returns-2
     put-quoted-requires
     count-crossings-requires
     same-length
-    returns-2)
+    returns-3)

@@ -30,7 +30,7 @@ sub-result : tie.Need-sub-result
 sub-result c = let s = c .before .before in omega (arith, parts-few (s .args .layout) (s .pre) (room s))
 
 returns : tie.Need-returns
-returns c = let s = c .before .before in omega (arith, word-count (s .args .layout) (s .pre) (room s))
+returns c spacing = let s = c .before .before in omega (arith, word-count (s .args .layout) (s .pre) (room s) spacing)
 
 pub count-words-spec : {M : Type 1} → statement M
 count-words-spec =

@@ -10,7 +10,7 @@ use Rattle.words.specs.Words.{cableLengthWord, totalLengthWord}
 use Rattle.drawing.specs.Sheet.{lengthsSection}
 use Rattle.writer.specs.Values.{layoutIn}
 use Rattle.writer.proofs.Sections.{lengthsFrom, lengths-next, lengthBefore, before-first, before-next, lengths-last}
-use Rattle.writer.proofs.Layouts.{AllPlaces, route-count, course-small, length-is, lengths-small}
+use Rattle.writer.proofs.Layouts.{AllPlaces, route-count, length-small, length-is, lengths-small}
 use Rattle.writer.proofs.sheet.put_lengths.Statement.{statement}
 use Rattle.writer.proofs.sheet.put_lengths.Tie as tie
 
@@ -39,7 +39,7 @@ line-length-requires : tie.Need-line-length-requires Inv-loop μ-loop
 line-length-requires c κs =
     let k = c .before in
     let s = k .before .before .before in
-    course-small (s .args .t3) (s .pre .0) (room s) (k .before .loop .line) (k .loop-test .taken)
+    length-small (s .args .t3) (s .pre .0) (room s) (k .before .loop .line) (k .loop-test .taken)
 
 cast-cable-length : tie.Need-cast-cable-length Inv-loop μ-loop
 cast-cable-length c = omega (arith, c .before .before .before .before .before .before .pre .0 .fits .cables)
@@ -48,7 +48,7 @@ cable-length-requires : tie.Need-cable-length-requires Inv-loop μ-loop
 cable-length-requires c κs =
     let k = c .before .before .before in
     let s = k .before .before .before in
-    omega (arith, c .before .line-length .ensures, course-small (s .args .t3) (s .pre .0) (room s) (k .before .loop .line) (k .loop-test .taken) .length)
+    omega (arith, c .before .line-length .ensures, length-small (s .args .t3) (s .pre .0) (room s) (k .before .loop .line) (k .loop-test .taken) .length)
 
 put-requires : tie.Need-put-requires Inv-loop μ-loop
 put-requires c κs =
@@ -70,7 +70,7 @@ add-total c =
     omega (
       arith,
       p .line-length .ensures,
-      course-small (s .args .t3) (s .pre .0) (room s) (l .line) (k .loop-test .taken) .length,
+      length-small (s .args .t3) (s .pre .0) (room s) (l .line) (k .loop-test .taken) .length,
       l .inv .1 .1,
       lengths-small (s .args .t3) (s .pre .0) (room s) (l .line) (l .inv .0),
       s .pre .0 .fits .cables,

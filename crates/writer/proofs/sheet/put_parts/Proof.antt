@@ -6,6 +6,7 @@ use mathlib.Core.List.{[], _∷_}
 use lib.ListN.{length}
 use Rattle.lists.proofs.Stores.{stored-as}
 use Rattle.lists.proofs.Storing.{Storing, storing-start, storing-next, storing-end, storing-kept}
+use Rattle.drawing.specs.Spacing.{spaced}
 use Rattle.drawing.specs.Sheet.{partSpotWord, partsSection}
 use Rattle.drawing.proofs.WordCounts.{parts-length}
 use Rattle.writer.specs.Values.{numberedIn}
@@ -15,11 +16,11 @@ use Rattle.writer.proofs.sheet.put_parts.Statement.{statement}
 use Rattle.writer.proofs.sheet.put_parts.Tie as tie
 
 abbrev Inv-loop : tie.InvT-loop
-Inv-loop sheet₀ at layout ranking n next₀ p₀ sheet next p =
-    (p ≤ n) × Storing sheet₀ at (partsSection (numberedIn ranking layout)) sheet next (partsFrom (numberedIn ranking layout) p)
+Inv-loop sheet₀ at layout spacing ranking n next₀ p₀ sheet next p =
+    (p ≤ n) × Storing sheet₀ at (partsSection (spaced spacing (numberedIn ranking layout))) sheet next (partsFrom (spaced spacing (numberedIn ranking layout)) p)
 
 abbrev μ-loop : tie.MeasureT-loop
-μ-loop sheet₀ at layout ranking n next₀ p₀ sheet next p = n - p
+μ-loop sheet₀ at layout spacing ranking n next₀ p₀ sheet next p = n - p
 
 loop-holds : tie.Need-loop-holds Inv-loop μ-loop
 unfolding partsSection
@@ -31,15 +32,15 @@ element-copy-out-part-word c = omega (arith, c .before .before .before .before .
 part-word-requires : tie.Need-part-word-requires Inv-loop μ-loop
 part-word-requires c κs =
     let s = c .before .before .before .before .before in
-    (s .pre .0, rank-below (s .args .layout) (s .pre .0) (s .args .t3) (s .pre .1 .0) _ (omega arith))
+    (s .pre .0, (s .pre .1 .0, rank-below (s .args .layout) (s .pre .0) (s .args .t3) (s .pre .1 .1 .0) _ (omega arith)))
 
 put-requires : tie.Need-put-requires Inv-loop μ-loop
 put-requires c κs =
     let l = c .before .before .before .before .loop in
     let s = c .before .before .before .before .before .before in
-    let n = number-count (s .args .layout) (s .pre .0) (s .args .t3) in
-    let d = numberedIn (s .args .t3) (s .args .layout) in
-    omega (arith, l .inv .1 .place, storing-kept (l .inv .1), s .pre .1 .1, parts-length d, n, ap length (parts-next d (l .p) (omega (arith, n, c .before .before .before .loop-test .taken))))
+    let n = number-count (s .args .layout) (s .pre .0) (s .args .t3) (s .args .spacing) in
+    let d = spaced (s .args .spacing) (numberedIn (s .args .t3) (s .args .layout)) in
+    omega (arith, l .inv .1 .place, storing-kept (l .inv .1), s .pre .1 .1 .1, parts-length d, n, ap length (parts-next d (l .p) (omega (arith, n, c .before .before .before .loop-test .taken))))
 
 add-p : tie.Need-add-p Inv-loop μ-loop
 add-p c = omega (arith, c .before .before .before .before .before .before .before .before .before .pre .0 .fits .most)
@@ -53,10 +54,10 @@ loop-again c =
     let l = k .before .before .before .before .before .loop in
     let s = k .before .before .before .before .before .before .before in
     let h = k .before .before .before .before .loop-test .taken in
-    let n = number-count (s .args .layout) (s .pre .0) (s .args .t3) in
-    let e = k .before .part-word .ensures ∙ ap partSpotWord (number-spot (s .args .layout) (s .pre .0) (s .args .t3) (s .pre .1 .0) (l .p) h) in (
+    let n = number-count (s .args .layout) (s .pre .0) (s .args .t3) (s .args .spacing) in
+    let e = k .before .part-word .ensures ∙ ap partSpotWord (number-spot (s .args .layout) (s .pre .0) (s .args .t3) (s .pre .1 .1 .0) (s .args .spacing) (l .p) h) in (
       omega arith,
-      storing-next _ (parts-next (numberedIn (s .args .t3) (s .args .layout)) (l .p) (omega (arith, n, h))) (stored-as (ap (λ (z : ℕ). z ∷ []) e) (k .put .ensures)) (l .inv .1),
+      storing-next _ (parts-next (spaced (s .args .spacing) (numberedIn (s .args .t3) (s .args .layout))) (l .p) (omega (arith, n, h))) (stored-as (ap (λ (z : ℕ). z ∷ []) e) (k .put .ensures)) (l .inv .1),
     )
 
 same-length : tie.Need-same-length Inv-loop μ-loop
@@ -66,7 +67,8 @@ returns : tie.Need-returns Inv-loop μ-loop
 returns c =
     let s = c .before .before .before in
     storing-end
-    (parts-end (numberedIn (s .args .t3) (s .args .layout)) (c .before .loop .p) (omega (arith, c .loop-test .left, number-count (s .args .layout) (s .pre .0) (s .args .t3))))
+    (parts-end (spaced (s .args .spacing) (numberedIn (s .args .t3) (s .args .layout))) (c .before .loop .p)
+    (omega (arith, c .loop-test .left, number-count (s .args .layout) (s .pre .0) (s .args .t3) (s .args .spacing))))
     (c .before .loop .inv .1)
 
 pub put-parts-spec : {M : Type 1} → statement M

@@ -4,6 +4,7 @@ use native.Mathlib.Omega.{arith}
 use mathlib.Core.Path.{_∙_}
 use lib.ListN.{length}
 use borrow.Author.Needs.{needs}
+use Rattle.drawing.specs.Spacing.{spaced}
 use Rattle.drawing.specs.Sheet.{cablesSection, lengthsSection}
 use Rattle.drawing.proofs.WordCounts.{parts-length, section-lengths}
 use Rattle.writer.specs.Values.{layoutIn, numberedIn}
@@ -22,18 +23,20 @@ head-word-requires c κs = search needs
 put-requires : tie.Need-put-requires
 put-requires c κs =
     let s = c .before .before .before in
-    omega (arith, section-lengths (layoutIn (s .args .layout)), s .pre .1 .1)
+    omega (arith, section-lengths (s .args .spacing) (layoutIn (s .args .layout)), s .pre .1 .1 .1)
 
 put-parts-requires : tie.Need-put-parts-requires
 put-parts-requires c κs =
     let k = c .before .before .before in
     let s = k .before .before .before .before in
-    let d = layoutIn (s .args .layout) in
-    (s .pre .0, (s .pre .1 .0, omega (arith, section-lengths d, part-count (s .args .layout) (s .pre .0), s .pre .1 .1, k .put .ensures .place, k .put .kept .0)))
+    let d = layoutIn (s .args .layout) in (
+      s .pre .0,
+      (s .pre .1 .0, (s .pre .1 .1 .0, omega (arith, section-lengths (s .args .spacing) d, part-count (s .args .layout) (s .pre .0), s .pre .1 .1 .1, k .put .ensures .place, k .put .kept .0))),
+    )
 
 -- behind the parts there is room for the cables and the lengths
 room : (j : tie.After-put-parts) → let d = layoutIn (start j .args .layout) in
-    j .put-parts .result + length (cablesSection d) + length (lengthsSection d) ≤ length (j .put-parts .last .0)
+    j .put-parts .result + length (cablesSection (spaced (start j .args .spacing) d)) + length (lengthsSection d) ≤ length (j .put-parts .last .0)
 room j =
     let k = j .before .before .before .before in
     let s = start j in
@@ -41,11 +44,11 @@ room j =
     let l = s .args .layout in
     omega (
       arith,
-      section-lengths (layoutIn l),
+      section-lengths (s .args .spacing) (layoutIn l),
       part-count l (s .pre .0),
-      parts-length (numberedIn r l),
-      number-count l (s .pre .0) r,
-      s .pre .1 .1,
+      parts-length (spaced (s .args .spacing) (numberedIn r l)),
+      number-count l (s .pre .0) r (s .args .spacing),
+      s .pre .1 .1 .1,
       k .put .ensures .place,
       k .put .kept .0,
       j .put-parts .ensures .place,
@@ -53,7 +56,7 @@ room j =
     )
 
 put-cables-requires : tie.Need-put-cables-requires
-put-cables-requires c κs = let j = c .before .before .before in (start j .pre .0, omega (arith, room j))
+put-cables-requires c κs = let j = c .before .before .before in (start j .pre .0, (start j .pre .1 .0, omega (arith, room j)))
 
 put-lengths-requires : tie.Need-put-lengths-requires
 put-lengths-requires c κs =
@@ -77,7 +80,7 @@ returns c =
     let k = j .before .before .before .before in
     let s = k .before .before .before .before in
     let l = s .args .layout in
-    sections-stored _ _ (names l (s .pre .0) (s .args .ranking) (s .pre .1 .0)) (layout-meets l (s .pre .0)) (k .before .head-word .ensures) (k .put .ensures)
+    sections-stored _ _ _ (names l (s .pre .0) (s .args .ranking) (s .pre .1 .1 .0)) (layout-meets l (s .pre .0)) (k .before .head-word .ensures) (k .put .ensures)
     (j .put-parts .ensures) (i .put-cables .ensures) (h .put-lengths .ensures)
 
 pub put-sheet-spec : {M : Type 1} → statement M
