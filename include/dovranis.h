@@ -20,6 +20,8 @@
  * line and their total. A call that is given a discount ends it with the bill: the prices by line and
  * their total. A call that is given a spacing, two pitches and a margin, moves the parts and corners
  * apart for print; lengths, prices and crossings are those of the grid in every spacing.
+ *
+ * dovranis_propose and dovranis_commit draw nothing: with them a list grows cable by cable.
  */
 #ifndef DOVRANIS_H
 #define DOVRANIS_H
@@ -202,6 +204,112 @@ uint32_t dovranis_draw_quoted_spaced(const uint32_t *list, size_t list_count, ui
                                      size_t sheet_count, uint32_t discount, uint32_t column_pitch,
                                      uint32_t row_pitch, uint32_t margin, size_t *words,
                                      size_t *crossings, size_t *place);
+
+/* The document's 'slip': a cable between the parts one and other, and a version, which is the count of
+ * cables in the list for which it was made. dovranis_propose tells the version, and dovranis_commit
+ * answers any three numbers.
+ *
+ * The list grows in a row that is lent to both calls. The list in a row is the row's first m + 2 words,
+ * where m is bits 15 to 0 of its first word, or the whole row where it has fewer. Words behind the list
+ * are room for cables and may hold anything: no answer depends on them (the laws `propose-same` and
+ * `commit-same` in crates/editor/proofs/Behind.antt). A list begins as a head with m = 0 and an ends
+ * word. No list that passes check 8 has more than 2n cables, so that in a row of 2n + 2 words, at most
+ * 514, there is room for every cable that may be added (`always-room`, in Refusals.antt there).
+ *
+ * Take a row whose list passes checks 1 to 8 and that nothing else writes. Any run of the two calls,
+ * whatever part numbers and proposals they are given, leaves that list followed by the cables of the
+ * commits with result 0, in their sequence, and m raised by their number. It passes checks 1 to 8
+ * again, and every word behind it is as it was (`grown`, in Runs.antt there). With list_count = m + 2 it
+ * is a list for the calls above, and of their checks it passes 1 to 8. */
+struct dovranis_proposal {
+    uint32_t one;
+    uint32_t other;
+    uint32_t version;
+};
+
+/* The document's 'try': whether the list in a row may have a cable between two parts behind its last
+ * cable. The row is only read.
+ *
+ * The result is 0 for a proposal, and else the number of the check that refuses, 1 to 8 or 16. It, and
+ * all that is stored, depends on the list in the row, on row_count and on the two part numbers alone.
+ * Every row and every two numbers are answered.
+ *
+ * 0, a proposal:
+ *   version  m, the count of cables in the list; the proposal is one, other and this version, which may
+ *            stand in the proposal itself
+ *   place    as it was
+ *
+ *   Given a row of the same words, dovranis_commit adds the cable of this proposal: it never refuses one
+ *   if nothing has written the row since (`fresh-commits` in crates/editor/proofs/Effects.antt).
+ *
+ * 1 to 8 or 16, a refusal:
+ *   version  as it was
+ *   place    the place that goes with the number
+ *
+ *   First the list in the row is checked as it is, with the numbers 1 to 8 and the places of
+ *   dovranis_draw. So a row of fewer than two words gets 1, with row_count as its place, and any other
+ *   of fewer than m + 2 words gets 2 where a word that is there is wrong, and else 3, with m + 2. Then
+ *   comes the cable:
+ *
+ *   number  condition                                                             place
+ *   5       one or other is n or more, however large                              m + 2
+ *   6       one equals other                                                      m + 2
+ *   7       a cable of the list joins the same two parts, either way round        m + 2
+ *   8       one or other has four cables in the list                              lowest such part
+ *   16      no word is left in the row: row_count is m + 2                        row_count
+ *
+ *   The first that applies is the refusal. 5 to 8 are what the longer list would get, whose last word,
+ *   word m + 2, is the cable's (`cableChecks`, by definition; no other number can come of it,
+ *   `among-5-to-8`).
+ *
+ * Of the caller's memory the call reads and writes nothing but the row and the two numbers, and the row
+ * is only read. It keeps nothing from call to call and allocates no memory.
+ *
+ * The caller sees to this; nothing tests it:
+ * - row points to row_count words, aligned as uint32_t and of at most PTRDIFF_MAX bytes. With a count of
+ *   0 the pointer is not followed and may be null.
+ * - version and place each point to a number, whatever the result: none may be null.
+ * - row and the two numbers lie apart: no two of the three overlap.
+ * - Until the call returns nothing else writes the row, and nothing else reads or writes the numbers.
+ *   Before the call the numbers may hold anything.
+ * - There are 128 KiB of stack. The proofs do not bound the stack; the tests call with so much.
+ */
+uint32_t dovranis_propose(const uint32_t *row, size_t row_count, uint32_t one, uint32_t other,
+                          uint32_t *version, size_t *place);
+
+/* The document's 'lay': adds the cable of a proposal to the list in a row. What dovranis_propose checks
+ * is checked anew, so that a proposal may come from anywhere: late, twice, or made up by the caller.
+ *
+ * The result is 0 for a cable that is added, and else the number of the check that refuses, 1 to 8, 15
+ * or 16. It, and all that is stored, depends on the list in the row, on row_count and on the proposal
+ * alone. Every row and every three numbers are answered.
+ *
+ * 0, the cable is added:
+ *   row    word m + 2 is the cable's, of kind 3 with one and other as they stand in the proposal; word 0
+ *          is the head with m + 1 in place of m; every other word is as it was
+ *   place  as it was
+ *
+ * 1 to 8, 15 or 16, a refusal:
+ *   row    as it was, every word
+ *   place  the place that goes with the number
+ *
+ *   First the list in the row is checked as it is, by 1 to 8; then comes 15, and then the cable, by 5 to
+ *   8 and last by 16, all as dovranis_propose says.
+ *
+ *   number  condition                                                             place
+ *   15      version is not m: cables have been added since, or it is made up      m
+ *
+ *   So once a proposal's cable is added, that proposal and all others of its version get 15 ever
+ *   after, as long as nothing else writes the row (`laid-once` in crates/editor/proofs/Runs.antt).
+ *
+ * Of the caller's memory the call reads and writes nothing but the row and the place. It keeps nothing
+ * from call to call and allocates no memory.
+ *
+ * What dovranis_propose says that the caller sees to holds of the row and the place here; and as the
+ * row is written, nothing else reads or writes it until the call returns.
+ */
+uint32_t dovranis_commit(uint32_t *row, size_t row_count, struct dovranis_proposal proposal,
+                         size_t *place);
 
 #ifdef __cplusplus
 }

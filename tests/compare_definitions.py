@@ -3,10 +3,12 @@
 
   compare_definitions.py [COUNT [SEED [LARGE [RINGS]]]]     COUNT lists of 3 to 9 parts, LARGE of about 20, and RINGS rings of
                                                             58 parts, the shortest that check 14 can refuse (default 300, 1, 4, 1)
+  compare_definitions.py --editor [COUNT [SEED]]            COUNT operations of the editor in random runs (default 400, 1)
 
 Every list is stated with a length of output, a third of them with a discount and half of them with a spacing, as an equation of
 `outcome`, the definition at the top, with all words, counts, numbers and places that reference.py gives, and proved by computation
-in a copy of the crates. It is no part of the gate."""
+in a copy of the crates. An operation of the editor is stated as an equation of `proposed`, or of `effect` with the row that it
+leaves. It is no part of the gate."""
 import os
 import random
 import re
@@ -63,14 +65,62 @@ def imported(rows, module, names):
     return out
 
 
+def item(code, what):
+    """The struct or enum of this name."""
+    return re.search(r'^pub (?:struct|enum) %s \{.*?^\}$' % what, code, re.M | re.S).group()
+
+
 def struct_given(code):
     """The struct of what a caller gives, with the `use` lines of the types in it."""
-    struct = re.search(r'^pub struct Options \{.*?^\}$', code, re.M | re.S).group()
+    struct = item(code, 'Options')
     types = set(re.findall(r'\b[A-Z]\w*', struct)) - {'Options'}
     used = []
     for path, names in re.findall(r'^(?:pub )?use (\S+?)::(\w+|\{[^}]*\});$', code, re.M):
         used += ['use %s::%s;' % (path, name) for name in re.findall(r'[\w:]*\w', names) if name.split('::')[-1] in types]
     return '\n'.join(used + [struct]) + '\n'
+
+
+def checked(crate, below, text, code, gone):
+    """The cases of a text that the checker refuses, and what it says, in a copy of a crate over those below it. Of its proofs only what opens the definitions
+    is in the copy, of its code what `code` gives of src/lib.rt, and of its definitions not the modules that are gone."""
+    with tempfile.TemporaryDirectory() as top:
+        for name in [crate] + below:
+            shutil.copytree(os.path.join(ROOT, 'crates', name), os.path.join(top, 'crates', name), ignore=shutil.ignore_patterns('must-fail'))
+        with open(os.path.join(ROOT, 'crates.txt'), encoding='utf-8') as f:
+            rows = [r for r in f.read().split('\n') if r.split(':')[0] in [crate] + below]
+        with open(os.path.join(top, 'crates.txt'), 'w', encoding='utf-8') as f:
+            f.write('\n'.join(rows) + '\n')
+        folder = os.path.join(top, 'crates', crate)
+
+        def read(path):
+            with open(os.path.join(folder, path), encoding='utf-8') as f:
+                return f.read()
+
+        files = {'proofs/Lib.antt': 'mod Computing\nmod Compare\n', 'proofs/Computing.antt': read('proofs/Computing.antt'), 'proofs/Compare.antt': '\n'.join(text) + '\n',
+                 'src/lib.rt': code(read('src/lib.rt')), 'specs/Lib.antt': '\n'.join(r for r in read('specs/Lib.antt').split('\n') if r.replace('pub mod ', '') not in gone)}
+        for part in ('proofs', 'src'):
+            shutil.rmtree(os.path.join(folder, part))
+            os.makedirs(os.path.join(folder, part))
+        for name in gone:
+            os.remove(os.path.join(folder, 'specs', name + '.antt'))
+        for path, content in files.items():
+            with open(os.path.join(folder, path), 'w', encoding='utf-8') as f:
+                f.write(content)
+        r = subprocess.run(['rt', 'check', crate], cwd=top, stdout=subprocess.PIPE, stderr=subprocess.STDOUT, text=True)
+    return sorted(set(re.findall(r'error: `(case-\d+)`', r.stdout))), r.stdout if r.returncode else ''
+
+
+def told(wrong, output, what):
+    """Says whether all agree; the exit status."""
+    if not output:
+        print('all agree')
+        return 0
+    print('%d disagree: %s' % (len(wrong), ' '.join(wrong)))
+    for name in wrong[:5]:
+        print(name, what(int(name[5:])))
+    if not wrong:
+        print(output[-3000:])
+    return 1
 
 
 def main(a):
@@ -100,47 +150,47 @@ def main(a):
         right, check = due(words, room, *given[k])
         tally[check] = tally.get(check, 0) + 1
         text += ['', 'case-%d : outcome %s %s %d ≡ %s' % (k, options(*given[k]), written(words), room, right), 'unfolding ' + opened, 'case-%d = refl' % k]
-    with tempfile.TemporaryDirectory() as top:
-        shutil.copytree(os.path.join(ROOT, 'crates'), os.path.join(top, 'crates'), ignore=shutil.ignore_patterns('must-fail'))
-        shutil.copy(os.path.join(ROOT, 'crates.txt'), top)
-        hookup = os.path.join(top, 'crates/hookup')
-        with open(os.path.join(hookup, 'proofs/Computing.antt'), encoding='utf-8') as f:
-            computing = f.read()
-        # of the code the definitions cite the struct of what a caller gives
-        with open(os.path.join(hookup, 'src/lib.rt'), encoding='utf-8') as f:
-            code = struct_given(f.read())
-        for part in ('proofs', 'src'):
-            shutil.rmtree(os.path.join(hookup, part))
-            os.makedirs(os.path.join(hookup, part))
-        keep = ['hookup', 'lists', 'words', 'prices', 'station', 'drawing', 'order', 'layout', 'writer']
-        # what only the code's contracts cite goes with the code
-        os.remove(os.path.join(hookup, 'specs/Answer.antt'))
-        with open(os.path.join(hookup, 'specs/Lib.antt'), encoding='utf-8') as f:
-            modules = [r for r in f.read().split('\n') if r != 'pub mod Answer']
-        with open(os.path.join(hookup, 'specs/Lib.antt'), 'w', encoding='utf-8') as f:
-            f.write('\n'.join(modules))
-        with open(os.path.join(top, 'crates.txt'), encoding='utf-8') as f:
-            rows = [r for r in f.read().split('\n') if r.split(':')[0] in keep]
-        with open(os.path.join(top, 'crates.txt'), 'w', encoding='utf-8') as f:
-            f.write('\n'.join(rows) + '\n')
-        for name in os.listdir(os.path.join(top, 'crates')):
-            if name not in keep:
-                shutil.rmtree(os.path.join(top, 'crates', name))
-        for path, content in (('proofs/Lib.antt', 'mod Computing\nmod Compare\n'), ('proofs/Computing.antt', computing), ('proofs/Compare.antt', '\n'.join(text) + '\n'), ('src/lib.rt', code)):
-            with open(os.path.join(hookup, path), 'w', encoding='utf-8') as f:
-                f.write(content)
-        r = subprocess.run(['rt', 'check', 'hookup'], cwd=top, stdout=subprocess.PIPE, stderr=subprocess.STDOUT, text=True)
-    wrong = sorted(set(re.findall(r'error: `(case-\d+)`', r.stdout)))
+    # what only the code's contracts cite goes with the code
+    wrong, output = checked('hookup', ['lists', 'words', 'prices', 'station', 'drawing', 'order', 'layout', 'writer'], text, struct_given, ['Answer'])
     print('%d lists, %d with a discount, %d with a spacing (%s)' % (len(cases), *(sum(k is not None for k in some) for some in (discounts, spacings)), ', '.join('%d %s' % (v, 'drawn' if c == 0 else 'refused by %d' % c) for c, v in sorted(tally.items()))))
-    if r.returncode == 0:
-        print('all agree')
-        return 0
-    print('%d disagree: %s' % (len(wrong), ' '.join(wrong)))
-    for name in wrong[:5]:
-        print(name, options(*given[int(name[5:])]), ' '.join('%08x' % w for w in cases[int(name[5:])]))
-    if not wrong:
-        print(r.stdout[-3000:])
-    return 1
+    return told(wrong, output, lambda k: '%s %s' % (options(*given[k]), ' '.join('%08x' % w for w in cases[k])))
 
 
-sys.exit(main(sys.argv[1:]))
+# The editor: equations of `proposed` and `effect`.
+
+def operation_due(row, asked):
+    """The equation of one operation, and its number."""
+    what, one, other, count = asked
+    answer, after = reference.edit(row, asked)
+    number = answer[1] if answer[0] == 'refused' else 0
+    if what == lists.PROPOSE:
+        right = 'answer.Refused %d %d' % answer[1:] if number else 'answer.Valid (proposal %d %d %d)' % answer[1:]
+        return 'proposed %d %d %s ≡ %s' % (one, other, written(row), right), number
+    verdict = 'Refused %d %d' % answer[1:] if number else 'Passed'
+    return 'effect (Commit (proposal %d %d %d)) %s ≡ record { verdict = %s; row = %s }' % (one, other, count, written(row), verdict, written(after)), number
+
+
+def editor(a):
+    count, seed = int(a[0]) if a else 400, int(a[1]) if len(a) > 1 else 1
+    rng, cases = random.Random(seed), []
+    while len(cases) < count:
+        row, done = lists.sequence(rng, reference.edit)
+        for asked, _, after in done:
+            if len(row) < 20:
+                cases.append((row, asked))
+            row = after
+    table = open(os.path.join(ROOT, 'crates/editor/proofs/Table.antt'), encoding='utf-8').read()
+    opened = re.search(r'^unfolding (.*)$', table, re.M).group(1)
+    maker = re.search(r'^abbrev proposal : .*\n.*$', table, re.M).group()
+    text, tally = ['-- Random operations.'] + re.findall(r'^use .*$', table, re.M) + ['', maker], {}
+    for k, (row, asked) in enumerate(cases):
+        equation, number = operation_due(row, asked)
+        tally[number] = tally.get(number, 0) + 1
+        text += ['', 'case-%d : %s' % (k, equation), 'unfolding ' + opened, 'case-%d = refl' % k]
+    wrong, output = checked('editor', ['lists', 'words', 'station'], text, lambda code: item(code, 'Proposal') + '\n\n' + item(code, 'Proposed') + '\n', [])
+    print('%d operations (%s)' % (len(cases), ', '.join('%d %s' % (v, 'not refused' if c == 0 else 'refused by %d' % c) for c, v in sorted(tally.items()))))
+    return told(wrong, output, lambda k: '%s on %s' % (cases[k][1], ' '.join('%08x' % w for w in cases[k][0])))
+
+
+if __name__ == '__main__':
+    sys.exit(editor(sys.argv[2:]) if sys.argv[1:2] == ['--editor'] else main(sys.argv[1:]))

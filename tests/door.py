@@ -2,13 +2,15 @@
 """The library as programs in C see it: the archive of the crate `exports`, linked as a shared object and called by ctypes.
 
   door.py       proves and builds the archive, compiles the header as C99 and as C++, compares its constants with the library's, and draws one sheet,
-                without a discount and with one, on the grid and in a spacing
+                without a discount and with one, on the grid and in a spacing; then makes its list by proposals and commits
 
   import door; lib = door.load(door.build())
   lib.draw(list_words, output_words) -> (result, words, crossings, place, output after)
   lib.draw_quoted(list_words, output_words, discount) -> the same
   lib.draw_spaced(list_words, output_words, spacing), lib.draw_quoted_spaced(list_words, output_words, discount, spacing) -> the same; a spacing is a column
       pitch, a row pitch and a margin
+  lib.propose(row_words, one, other) -> (result, version, place, row after)
+  lib.commit(row_words, proposal) -> (result, place, row after); a proposal is one, other and a version
 
 It is no part of the gate."""
 import array
@@ -23,6 +25,7 @@ SHARED = os.path.join(TOP, 'target', 'staticlib', 'libexports.so')
 INCLUDE = os.path.join(TOP, 'include')
 
 POINTER, SIZE, NUMBER = ctypes.c_void_p, ctypes.c_size_t, ctypes.c_uint32
+GUARD = 0x5a5a5a5a      # around a row
 WARNED = ['-Wall', '-Wextra', '-Wpedantic', '-Werror']
 COMPILERS = (['cc', '-std=c99', '-x', 'c'], ['g++', '-std=c++98', '-x', 'c++'], ['g++', '-std=c++17', '-x', 'c++'])
 
@@ -50,6 +53,10 @@ def header():
     return tuple(map(int, shown.split()[-2:]))
 
 
+class Proposal(ctypes.Structure):
+    _fields_ = [('one', NUMBER), ('other', NUMBER), ('version', NUMBER)]
+
+
 class Door:
     def __init__(self, path, name='dovranis'):
         lib = ctypes.CDLL(path)
@@ -63,6 +70,8 @@ class Door:
         self.quoted = function('_draw_quoted', NUMBER, POINTER, SIZE, POINTER, SIZE, NUMBER, POINTER, POINTER, POINTER)
         self.spaced = function('_draw_spaced', NUMBER, POINTER, SIZE, POINTER, SIZE, NUMBER, NUMBER, NUMBER, POINTER, POINTER, POINTER)
         self.quoted_spaced = function('_draw_quoted_spaced', NUMBER, POINTER, SIZE, POINTER, SIZE, NUMBER, NUMBER, NUMBER, NUMBER, POINTER, POINTER, POINTER)
+        self.proposed = function('_propose', NUMBER, POINTER, SIZE, NUMBER, NUMBER, POINTER, POINTER)
+        self.committed = function('_commit', NUMBER, POINTER, SIZE, Proposal, POINTER)
         if name == 'dovranis':
             self.most_words = function('_most_words', SIZE)
             self.most_quoted_words = function('_most_quoted_words', SIZE)
@@ -89,6 +98,26 @@ class Door:
         """The call that is given both, as `draw`."""
         return self.asked(self.quoted_spaced, list_words, output_words, (discount, *spacing), lent)
 
+    def edited(self, call, row_words, more, numbers):
+        """The result of a call on a copy of this row, and the row after; no word beside it may change."""
+        block = array.array('I', [GUARD, GUARD, *row_words, GUARD, GUARD])
+        result = call(block.buffer_info()[0] + 2 * block.itemsize, len(row_words), *more, *map(ctypes.addressof, numbers))
+        if block[:2] != block[-2:] or set(block[:2]) != {GUARD}:
+            sys.exit('a word beside the row was written')
+        return result, list(block[2:-2])
+
+    def propose(self, row_words, one, other, lent=(0, 0)):
+        """The call on a copy of this row, with a version and a place lent that hold these values."""
+        version, place = NUMBER(lent[0]), SIZE(lent[1])
+        result, row = self.edited(self.proposed, row_words, (one, other), (version, place))
+        return result, version.value, place.value, row
+
+    def commit(self, row_words, proposal, lent=0):
+        """The call on a copy of this row, with a place lent that holds this value."""
+        place = SIZE(lent)
+        result, row = self.edited(self.committed, row_words, (Proposal(*proposal),), (place,))
+        return result, place.value, row
+
 
 def load(path):
     return Door(path)
@@ -108,6 +137,19 @@ def agree(lib):
     return said == has
 
 
+def made(lib, words):
+    """Whether the list comes about in a row, cable by cable, and each try leaves the row as it is."""
+    row, good = [words[0] & ~0xffff, words[1]] + (len(words) - 2) * [GUARD], True
+    for word in words[2:]:
+        one, other, before = word >> 12 & 0xfff, word & 0xfff, row
+        result, version, _, row = lib.propose(row, one, other)
+        good &= (result, row) == (0, before)
+        result, _, row = lib.commit(row, (one, other, version))
+        good &= result == 0
+        print('cable %d-%d: version %d, then %s' % (one, other, version, ' '.join('%08x' % w for w in row)))
+    return good and row == words
+
+
 def main():
     lib = load(build())
     triangle = [0x10030003, 0x20000002, 0x30000001, 0x30001002, 0x30000002]
@@ -118,7 +160,7 @@ def main():
                                      ('with both', lib.draw_quoted_spaced(triangle, row, 1250, spacing))):
         print('%s: result %d, words %d, crossings %d, place %d' % (what, *numbers))
         print(' '.join('%08x' % w for w in output))
-    return not agree(lib)
+    return not (made(lib, triangle) and agree(lib))
 
 
 if __name__ == '__main__':

@@ -894,6 +894,286 @@ def spaced():
     return out
 
 
+# The editor: a row holds a list and words behind it. An operation is PROPOSE or
+# COMMIT, two part numbers, and a version: the count of cables that the slip says. At
+# PROPOSE the version is 0 and means nothing.
+
+PROPOSE, COMMIT = 0, 1
+LAST = (1 << 32) - 1
+
+# Too large for a field of 12 bits; most have low bits that would be a part.
+TOO_WIDE = [4096, 4097, 4098, 8194, 65535, 65536, 65537, 65538, 1 << 24, (1 << 24) + 2, (1 << 28) + 1,
+            1 << 31, (1 << 31) + 2, LAST - 65535, LAST - 4095, LAST]
+
+# Words behind a list that show if it is read too far, or one of them written.
+BEHIND = [cable(0, 1), cable(2, 2), LAST, cable(0, 4095), 0, cable(1, 0), head(3, 0)]
+
+
+def slots(words, spare):
+    """A row that holds this list and so many words behind it."""
+    return words + [BEHIND[k % len(BEHIND)] for k in range(spare)]
+
+
+# Of eight parts 1 and 6 have four cables and 7 has none. The first line is one of 1's
+# and the last one of 6's; some lines name the higher part first.
+CROWDED = build(8, 0, 7, [(1, 4), (1, 0), (2, 1), (3, 1), (6, 2), (3, 6), (4, 6), (6, 5)])
+
+
+def tried(due, one, other):
+    return due, (PROPOSE, one, other, 0)
+
+
+def laid(due, one, other, version):
+    return due, (COMMIT, one, other, version)
+
+
+def fresh(one, other, version):
+    """A try that changes nothing, however often, and the lay of its slip."""
+    return 2 * [tried('proposal %d %d %d' % (one, other, version), one, other)] + [laid('committed', one, other, version)]
+
+
+def away(check, place, version, *cables):
+    """Each cable refused alike, as a try and as a lay with this version."""
+    due = 'refused %d %d' % (check, place)
+    return [k for c in cables for k in (tried(due, *c), laid(due, *c, version))]
+
+
+def stale(m, *slips):
+    return [laid('refused 15 %d' % m, *slip) for slip in slips]
+
+
+def unread(check, place, m):
+    """On a list that is refused: its refusal comes before all that a slip gets."""
+    due = 'refused %d %d' % (check, place)
+    return away(check, place, m, (0, 1), (0, 0), (4096, 1)) + [laid(due, 0, 1, m + 1), laid(due, LAST, LAST, LAST)]
+
+
+def edits():
+    """Runs of operations by name, as (name, row, [(what is due, operation)])."""
+    out = []
+
+    def put(name, row, *operations):
+        out.append((name, row, [k for some in operations for k in some]))
+
+    two, triangle = build(3, 0, 2, []), build(3, 0, 2, [(0, 1), (1, 2), (0, 2)])
+
+    # Rows shorter than their list.
+    put('no words', [], unread(1, 0, 0))
+    for w in (head(3, 0), head(3, 1), head(3, 65535), 0, LAST):
+        put('one word %08x' % w, [w], unread(1, 1, w & 0xffff))
+    for m in (1, 2, 512, 65534, 65535):
+        put('head and ends; m is %d' % m, [head(3, m), ends(0, 2)], unread(3, m + 2, m))
+    for k in (2, 3, 4):
+        put('%d words of the triangle' % k, triangle[:k], unread(3, 5, 3))
+    put('kind 4, and the last word missing', [head(3, 3), ends(0, 2), cable(0, 1), 0x40000002], unread(2, 3, 3))
+    put('a spare bit, and the last word missing', [head(3, 3), ends(0, 2), 0x31000001, cable(1, 2)], unread(2, 2, 3))
+    put('no ends, and the last words missing', [head(3, 3), 0x30000002, cable(0, 1)], unread(2, 1, 3))
+    put('no head, and the last words missing', [0x20030003, ends(0, 2), cable(0, 1)], unread(2, 0, 3))
+    put('3 before 4 to 7', [head(2, 4), ends(9, 9), cable(1, 1), cable(1, 1), cable(0, 9)], unread(3, 6, 4))
+
+    # Lists that checks 2 to 8 refuse, in a row of their own length and in a longer one.
+    seen = set()
+    for name, words in boundaries():
+        due, what = name.split(', ', 1)
+        if due == 'sheet' or len(words) < 2:
+            continue
+        check, place, m = *map(int, due.split()[1:]), words[0] & 0xffff
+        if check <= 8 and len(words) == m + 2:
+            for spare in (0, 2):
+                few = away(check, place, m, (0, 1)) if spare else [tried(due, 1, 2), laid(due, 2, 1, m + 1)]
+                put('%s; %d words behind' % (what, spare), slots(words, spare), few if (check, spare) in seen else unread(check, place, m))
+                seen.add((check, spare))
+
+    # What lies behind a list is no part of it.
+    put('a cable behind the triangle', triangle + [cable(0, 1)], away(7, 5, 3, (0, 1)), away(6, 5, 3, (1, 1)), away(5, 5, 3, (3, 1)))
+    put('m is 0 in front of cables', [head(3, 0)] + triangle[1:], fresh(0, 1, 0), away(7, 3, 1, (1, 0)), fresh(0, 2, 1))
+    put('m is 2 in front of three cables', [head(3, 2)] + triangle[1:], fresh(2, 0, 2), away(7, 5, 3, (0, 2)))
+    put('a list behind the list', two + two, fresh(1, 0, 0), fresh(2, 1, 1), away(16, 4, 2, (0, 2)))
+    put('all ones behind the list', two + 3 * [LAST], fresh(1, 2, 0), fresh(0, 1, 1))
+    put('the new cable behind the list', two + 3 * [cable(0, 1)],
+        fresh(1, 0, 0), away(7, 3, 1, (0, 1)), fresh(1, 2, 1), fresh(0, 2, 2), away(7, 5, 3, (0, 1)))
+    put('five cables of a part behind the list', [head(7, 0), ends(0, 1)] + [cable(0, q) for q in range(1, 6)],
+        fresh(0, 6, 0), fresh(0, 5, 1), fresh(0, 4, 2), fresh(0, 3, 3), away(8, 0, 4, (0, 2), (1, 0)), fresh(1, 2, 4))
+
+    # No cable yet.
+    put('no cable and no room', two, away(16, 2, 0, (0, 1), (2, 0)), away(6, 2, 0, (1, 1)), away(5, 2, 0, (0, 3), (4096, 4096)),
+        stale(0, (0, 1, 1), (0, 0, 65536), (LAST, 0, LAST)))
+    put('no cable and room for one', slots(two, 1), stale(0, (0, 2, 1), (0, 2, 65536)), fresh(0, 2, 0),
+        away(16, 3, 1, (0, 1)), away(7, 3, 1, (2, 0)), stale(1, (0, 1, 0)))
+
+    # 5: the largest part, and numbers that are none. It comes before 6, and before 7 of
+    # what the low bits would be.
+    for n, numbers in ((3, [3, 4, 255, 256, 4095, *TOO_WIDE]), (4, [4, 5, 256, 257, 4094, 4095, *TOO_WIDE]),
+                       (256, [256, 257, 511, 512, 4095, 4096 + 255, 65536 + 255, (1 << 24) + 255, LAST - 4095 + 255, LAST])):
+        cables = [c for p in numbers for c in ((p, 0), (n - 1, p))] + [(p, p) for p in numbers[::4]]
+        cables += [(4097, 2), (1, 4098), (4098, 4097), (65537, 2), (2, 65537), (4096, 0), (0, 4096), (65536, 0)]
+        put('part numbers among %d' % n, slots(build(n, 0, n - 1, [(1, 2)]), 2),
+            away(5, 3, 1, *cables), fresh(n - 1, 0, 1), away(5, 4, 2, (n, 1)), fresh(0, 1, 2), away(5, 5, 3, (1, n)))
+
+    # 5 to 8, either way round, with room and without: 16 comes last. 15 comes before all.
+    joined = [c for a, b in ((1, 4), (0, 1), (2, 1), (3, 1), (2, 6), (3, 6), (4, 6), (5, 6)) for c in ((a, b), (b, a))]
+    all_refused = (
+        away(5, 10, 8, (8, 1), (1, 8), (8, 8), (4097, 5), (6, 4096)) + away(6, 10, 8, (0, 0), (1, 1), (6, 6), (7, 7))
+        + away(7, 10, 8, *joined) + away(8, 1, 8, (1, 5), (5, 1), (1, 7), (7, 1), (1, 6), (6, 1)) + away(8, 6, 8, (0, 6), (6, 0), (6, 7), (7, 6))
+        + stale(8, *[(*c, v) for c in ((0, 8), (LAST, 1), (7, 7), (1, 1), (4, 1), (1, 4), (1, 5), (6, 0), (0, 7)) for v in (7, 9)])
+        + stale(8, *[(7, 0, v) for v in (0, 1, 10, 256 + 8, 4096 + 8, 65536 + 8, (8 << 16) + 8, (1 << 24) + 8, (1 << 31) + 8,
+                                         CROWDED[0], LAST - 65535 + 8, LAST)]))
+    put('eight parts, no room', CROWDED, all_refused, away(16, 10, 8, (0, 7), (5, 2)))
+    put('eight parts, room for two', slots(CROWDED, 2), all_refused,
+        fresh(7, 0, 8), stale(9, (7, 0, 8)), away(7, 11, 9, (0, 7)), away(8, 6, 9, (6, 0)),
+        fresh(5, 7, 9), away(16, 12, 10, (0, 5)), stale(10, (0, 5, 9)), away(7, 12, 10, (7, 5)), away(8, 1, 10, (7, 1)))
+
+    # The fourth cable of a part passes and the fifth does not, whichever field names it.
+    for what, part, cables, fourth, fifth, other in (
+            ('the lowest part', 0, [(0, 1), (2, 0), (0, 3)], (4, 0), (0, 5), (5, 1)),
+            ('the highest part', 5, [(5, 1), (2, 5), (3, 5)], (5, 4), (5, 0), (0, 1)),
+            ('a part in first fields', 2, [(2, 0), (2, 1), (2, 3)], (2, 4), (2, 5), (0, 5)),
+            ('a part in second fields', 3, [(0, 3), (1, 3), (2, 3)], (4, 3), (5, 3), (5, 0))):
+        put('the fourth and the fifth at %s' % what, slots(build(6, 0, 5, cables), 2),
+            fresh(*fourth, 3), away(8, part, 4, fifth, fifth[::-1]), fresh(*other, 4))
+    put('a fourth at both ends', slots(build(7, 0, 6, [(0, 1), (0, 2), (0, 3), (6, 3), (6, 4), (6, 5)]), 2),
+        fresh(6, 0, 6), away(8, 0, 7, (0, 5)), away(8, 6, 7, (6, 1)), away(7, 9, 7, (0, 6)))
+
+    # Of slips with one version one is laid. A slip with a later one waits.
+    put('two slips with one version', slots(two, 3),
+        fresh(0, 1, 0)[:1], fresh(1, 2, 0), stale(1, (0, 1, 0), (1, 2, 0)), fresh(0, 1, 1), away(7, 4, 2, (1, 2)))
+    put('a slip ahead of its version', slots(two, 3),
+        stale(0, (0, 2, 2)), fresh(0, 1, 0), stale(1, (0, 2, 2)), fresh(1, 2, 1), fresh(0, 2, 2))
+    ten = sorted(complete(5)[1])
+    put('all ten cables among five', slots(build(5, 0, 4, []), 12), *[fresh(*c[::1 - k % 2 * 2], k) for k, c in enumerate(ten)],
+        away(7, 12, 10, *ten[::2], *[c[::-1] for c in ten[1::2]]))
+
+    # 256 parts. With 512 cables every part has four, so that 16 never comes.
+    full, wide, around = full_list(256), wide_list(256), ring_list(256)
+    for spare in (0, 1, 6):
+        put('512 cables; %d words behind' % spare, slots(full, spare),
+            away(8, 0, 512, (0, 100)), away(8, 128, 512, (255, 128)), away(8, 252, 512, (252, 255)), away(7, 514, 512, (0, 255), (1, 0)),
+            away(6, 514, 512, (255, 255)), away(5, 514, 512, (256, 0), (100, 4096)),
+            stale(512, (0, 100, 511), (0, 100, 0), (0, 100, 65536 + 512), (0, 256, 513)))
+    put('511 cables, no room', wide, away(16, 513, 511, (255, 0)), away(8, 2, 511, (2, 255)), away(8, 100, 511, (0, 100)),
+        away(7, 513, 511, (254, 255)), stale(511, (0, 255, 255)))
+    put('511 cables, room for one', slots(wide, 1), stale(511, (0, 255, 510)), fresh(255, 0, 511),
+        away(7, 514, 512, (0, 255)), away(8, 0, 512, (0, 128)), stale(512, (0, 128, 511)))
+    put('256 cables', slots(around, 3), stale(256, *[(128, 3, v) for v in (0, 255, 257, 512)]), fresh(128, 3, 256), fresh(254, 127, 257),
+        away(7, 260, 258, (3, 128)), away(5, 260, 258, (3, 256)), fresh(255, 1, 258), away(16, 261, 259, (0, 2)))
+    put('255 cables', slots(build(256, 0, 255, [(p, p + 1) for p in range(255)]), 1),
+        fresh(255, 0, 255), away(16, 258, 256, (0, 2)), away(7, 258, 256, (0, 255)))
+    return out
+
+
+def long_edits():
+    """As `edits`, on rows of 65,536 words and more: around the greatest m, and a million."""
+    most = 65535
+    right = [head(256, most), ends(0, 1)] + [cable(0, 1), cable(1, 2)] * (most // 2) + [cable(0, 1)]
+    for name, row, check, place in (
+            ('a word less than the greatest m', right[:-1], 3, 65537),
+            ('the greatest m', right, 7, 4),
+            ('a word behind the greatest m', right + [LAST], 7, 4),
+            ('the greatest m in a million words', right + 934463 * [cable(0, 1)], 7, 4),
+            ('kind 4 in the last word', right[:-1] + [0x40000000], 2, 65536),
+            ('257 parts', [head(257, most)] + right[1:], 4, 257),
+            ('256 in the last word', right[:-1] + [cable(0, 256)], 5, 65536),
+            ('the last word joins a part to itself', right[:-1] + [cable(9, 9)], 6, 65536)):
+        yield name, row, unread(check, place, most)
+    yield ('a million words behind the list', slots(build(3, 0, 2, [(0, 1)]), 1000000),
+           stale(1, (2, 1, 0)) + fresh(2, 1, 1) + away(7, 4, 2, (1, 2)) + fresh(0, 2, 2)
+           + away(7, 5, 3, (2, 0)) + away(6, 5, 3, (2, 2)) + away(5, 5, 3, (4096, 1)))
+
+
+def loose(rng, n, m):
+    """A list that passes checks 1 to 8, with m cables if so many are found."""
+    pairs = sorted((four_regular(rng, n) if n > 12 else complete(n))[1])
+    rng.shuffle(pairs)
+    cables, count = [], [0] * n
+    for a, b in pairs:
+        if len(cables) < m and count[a] < 4 and count[b] < 4:
+            cables.append((a, b) if rng.random() < 0.5 else (b, a))
+            count[a] += 1
+            count[b] += 1
+    return build(n, *rng.sample(range(n), 2), cables)
+
+
+def start(rng, large=False):
+    """A row to start from. Most hold a list that passes checks 1 to 8."""
+    way = rng.random()
+    if way < 0.10:
+        words = refused(rng)
+    elif way < 0.14:
+        words = noise(rng)
+    else:
+        n = rng.choice([13, 64, 255, 256, rng.randint(9, 256)]) if large else rng.choice([3, 4, 5, 6, 6, 7, 7, 8, 8])
+        words = loose(rng, n, rng.choice([0, 0, rng.randint(0, n), rng.randint(0, 2 * n), 2 * n - 1]))
+    spare = rng.choice([0, 1, 24, 600] if large else [0, 1, 2, 4, 8, 16, 24])
+    row = words + [rng.choice([rng.getrandbits(32), cable(rng.randrange(4), rng.randrange(4)), rng.choice(BEHIND)]) for _ in range(spare)]
+    return row[:rng.randint(0, len(row))] if rng.random() < 0.02 else row
+
+
+def some_cable(rng, n, cables):
+    """Two numbers, chosen so that each of 5 to 8 and no refusal come often."""
+    joined = {pair(a, b) for a, b in cables}
+    count = [0] * n
+    for p in (p for c in cables for p in c if p < n):
+        count[p] += 1
+
+    def any_two():
+        return tuple(rng.sample(range(n), 2))
+
+    def first(test, pairs):
+        return next((c if rng.random() < 0.5 else c[::-1] for c in pairs if pair(*c) not in joined and test(c)), any_two())
+
+    pairs = [any_two() for _ in range(60)] if n > 12 else rng.sample(sorted(complete(n)[1]), n * (n - 1) // 2)
+    way = rng.randrange(16)
+    if way == 0:
+        none = rng.choice([n, n + 1, 4095, rng.randrange(n, 4096), rng.choice(TOO_WIDE), rng.getrandbits(32) | 4096,
+                           rng.randrange(1, 16) << 12 | rng.randrange(n), rng.randrange(1, 65536) << 16 | rng.randrange(n)])
+        return rng.choice([(none, rng.randrange(n)), (rng.randrange(n), none), (none, none)])
+    if way == 1:
+        return 2 * (rng.randrange(n),)
+    if way in (2, 3) and cables:
+        return rng.choice(rng.choice([cables, cables[-1:], cables[:1]]))[::rng.choice([1, -1])]
+    if way in (4, 5, 6):
+        return first(lambda c: max(count[c[0]], count[c[1]]) >= 4, pairs)
+    if way == 7:
+        return rng.getrandbits(rng.choice([3, 8, 32])), rng.getrandbits(rng.choice([3, 8, 32]))
+    return first(lambda c: max(count[c[0]], count[c[1]]) < 4, pairs)
+
+
+def operation(rng, row, slips):
+    """The next operation, chosen by what the row holds; slips are those made so far."""
+    n = min(256, max(3, row[0] >> 16 & 0xfff)) if row else 3
+    m = row[0] & 0xffff if row else 0
+    one, other = some_cable(rng, n, [(w >> 12 & 0xfff, w & 0xfff) for w in row[2:m + 2]])
+    way = rng.random()
+    if way < 0.35:
+        return PROPOSE, one, other, 0
+    if way < 0.43 and slips:
+        return (COMMIT, *rng.choice(slips))
+    if way < 0.49:
+        return COMMIT, one, other, rng.choice([0, m + 1, max(0, m - 1), m + 65536, m + (1 << rng.randrange(32)), rng.getrandbits(32)]) & LAST
+    if way < 0.72 and slips and slips[-1][2] == m:
+        return (COMMIT, *slips[-1])
+    return COMMIT, one, other, m
+
+
+def run_on(rng, row, edit, count):
+    """So many operations on a row, each with its answer and the row then; edit gives
+    both for a row and an operation."""
+    slips, done = [], []
+    for _ in range(count):
+        asked = operation(rng, row, slips)
+        answer, row = edit(row, asked)
+        if answer[0] == 'proposal':
+            slips.append(answer[1:])
+        done.append((asked, answer, row))
+    return done
+
+
+def sequence(rng, edit, large=False):
+    """A row and a run on it. Some large stations grow by many cables."""
+    row = start(rng, large)
+    return row, run_on(rng, row, edit, rng.choice([20, 40, 400] if large else [3, 10, 20, 40]))
+
+
 def files():
     """(name, bytes, first line due) about the length of a file."""
     triangle = b''.join(w.to_bytes(4, 'big')

@@ -5,11 +5,13 @@
   measure.py --markdown [WORD..]   the same as a table for docs/PERFORMANCE.md
   measure.py --quoted [WORD..]     as a table: instructions of both, without a discount and with one (`dovranis_draw_quoted`), and what a cable's price takes
   measure.py --spaced [WORD..]     as a table: instructions of both, on the grid and in a spacing (`dovranis_draw_spaced`), and what a spot on the sheet takes
+  measure.py --editor [WORD..]     as a table: instructions of `dovranis_propose` and `dovranis_commit` and of their like in baseline.c, on rows of 256 parts
   measure.py --functions [WORD..]  where the instructions go, on stations of 256 parts
   measure.py --passes [WORD..]     instructions on stations of 256 parts, with baseline.c in its simpler form too: a depth-first pass at each rank
   measure.py --program             instructions of the program target/bin/sheet (made by `rt check sheet`) and of baseline.c as a program
-  --archive FILE                   takes this archive, and neither proves nor builds one; it may be without `dovranis_draw_quoted`, but for --quoted, and without
-                                   `dovranis_draw_spaced` and `dovranis_draw_quoted_spaced`, but for --spaced
+  --archive FILE                   takes this archive, and neither proves nor builds one; it may be without `dovranis_draw_quoted`, but for --quoted, without
+                                   `dovranis_draw_spaced` and `dovranis_draw_quoted_spaced`, but for --spaced, and without `dovranis_propose` and
+                                   `dovranis_commit`, but for --editor
 
 It needs cc, nm, objdump and valgrind. Instructions are callgrind's, of one call and all that it calls. Time is the best of many rounds, a round being
 as many calls as take 20 microseconds; the two have four rounds each in turn. Both answers are compared. It is no part of the gate."""
@@ -136,6 +138,38 @@ int main(int argc, char **argv) {
 }
 '''
 
+EDITOR_DRIVER = r'''
+#include <stdio.h>
+#include <stdlib.h>
+#include <string.h>
+#include "dovranis.h"
+
+typedef uint32_t propose(const uint32_t *, size_t, uint32_t, uint32_t, uint32_t *, size_t *);
+typedef uint32_t commit(uint32_t *, size_t, struct dovranis_proposal, size_t *);
+propose baseline_propose;
+commit baseline_commit;
+
+struct answer { uint32_t result, version, row[1024]; size_t place; };
+
+/* FILE propose|commit ours|baseline|both ONE OTHER VERSION */
+int main(int argc, char **argv) {
+    static struct answer answers[2];
+    if (argc != 7) return 2;
+    struct dovranis_proposal p = {strtoul(argv[4], NULL, 10), strtoul(argv[5], NULL, 10), strtoul(argv[6], NULL, 10)};
+    FILE *f = fopen(argv[1], "rb");
+    size_t count = fread(answers[0].row, 4, 1024, f);
+    memcpy(answers[1].row, answers[0].row, sizeof answers[0].row);
+    for (int i = 0; i < 2; i++) {
+        struct answer *a = &answers[i];
+        if (!strcmp(argv[3], i ? "ours" : "baseline")) continue;
+        if (!strcmp(argv[2], "propose")) a->result = (i ? baseline_propose : dovranis_propose)(a->row, count, p.one, p.other, &a->version, &a->place);
+        else a->result = (i ? baseline_commit : dovranis_commit)(a->row, count, p, &a->place);
+    }
+    printf("%d %u\n", memcmp(&answers[0], &answers[1], sizeof answers[0]) == 0, answers[0].result);
+    return 0;
+}
+'''
+
 
 # The lists, as (name, words, length of output).
 
@@ -217,17 +251,14 @@ def chosen(rows, asked):
 
 # The calls. What one is given: nothing, a discount, a spacing, or a discount and a spacing, as a row of numbers.
 
-class Driver:
-    def __init__(self, folder, archive, flags=()):
+class Linked:
+    """A program in C with the archive and baseline.c, in a folder of its own."""
+    def __init__(self, folder, archive, text, flags):
         self.folder, self.program = folder, os.path.join(folder, 'driver')
-        symbols = subprocess.run(['nm', archive], check=True, stdout=subprocess.PIPE, text=True).stdout
-        self.has_quoted = ' T dovranis_draw_quoted\n' in symbols
-        self.has_spaced = all(' T dovranis_draw%s_spaced\n' % k in symbols for k in ('', '_quoted'))
-        flags = [*flags, *(['-DQUOTED'] if self.has_quoted else []), *(['-DSPACED'] if self.has_spaced else [])]
         os.mkdir(folder)
         source = self.program + '.c'
         with open(source, 'w') as f:
-            f.write(DRIVER)
+            f.write(text)
         subprocess.run(['cc', '-O3', '-Wl,-z,now', *flags, '-I', door.INCLUDE, '-o', self.program, source, os.path.join(HERE, 'baseline.c'), archive], check=True)
 
     def keep(self, words):
@@ -235,6 +266,26 @@ class Driver:
         with open(path, 'wb') as f:
             f.write(b''.join(w.to_bytes(4, 'little') for w in words))
         return path
+
+    def traced(self, name, asked, more=()):
+        """The path of callgrind's file for the function of this name in a run of the program, and the instructions."""
+        out = os.path.join(self.folder, 'callgrind.out')
+        r = subprocess.run(['valgrind', '--tool=callgrind', '--toggle-collect=' + name, '--callgrind-out-file=' + out, *more, self.program, *asked],
+                           check=True, stdout=subprocess.PIPE, stderr=subprocess.PIPE)
+        return out, int(re.search(rb'Collected : (\d+)', r.stderr).group(1))
+
+
+def functions_of(archive):
+    symbols = subprocess.run(['nm', archive], check=True, stdout=subprocess.PIPE, text=True).stdout
+    return set(re.findall(r' T (\w+)$', symbols, re.M))
+
+
+class Driver(Linked):
+    def __init__(self, folder, archive, flags=()):
+        has = functions_of(archive)
+        self.has_quoted = 'dovranis_draw_quoted' in has
+        self.has_spaced = {'dovranis_draw_spaced', 'dovranis_draw_quoted_spaced'} <= has
+        super().__init__(folder, archive, DRIVER, [*flags, *(['-DQUOTED'] if self.has_quoted else []), *(['-DSPACED'] if self.has_spaced else [])])
 
     def run_both(self, name, words, room, seconds, given=()):
         """Seconds of ours and of the baseline, whose answers are compared."""
@@ -250,12 +301,8 @@ class Driver:
 
     def trace(self, which, words, room, more=(), given=()):
         """The path of callgrind's file for one call, and the instructions."""
-        out = os.path.join(self.folder, 'callgrind.out')
         name = {'ours': 'dovranis_draw', 'baseline': 'baseline_draw'}[which] + {0: '', 1: '_quoted', 3: '_spaced', 4: '_quoted_spaced'}[len(given)]
-        asked = [self.program, self.keep(words), str(room), which, *map(str, given)]
-        r = subprocess.run(['valgrind', '--tool=callgrind', '--toggle-collect=' + name, '--callgrind-out-file=' + out, *more, *asked],
-                           check=True, stdout=subprocess.PIPE, stderr=subprocess.PIPE)
-        return out, int(re.search(rb'Collected : (\d+)', r.stderr).group(1))
+        return self.traced(name, [self.keep(words), str(room), which, *map(str, given)], more)
 
     def instructions(self, which, words, room, given=()):
         return self.trace(which, words, room, given=given)[1]
@@ -334,6 +381,44 @@ def spaced(driver, asked):
     print()
     refused(driver, 13, next(refusals())[1], (64, 64, 256))
     refused(driver, 14, lists.full_list(256), (64, 64, 255))
+
+
+# The editor. The rows, as (name, words, cable); each has room behind its list.
+
+def rows():
+    for cables, words, cable in ((0, lists.build(256, 0, 255, []), (0, 255)), (256, lists.ring_list(256), (0, 128)), (511, lists.wide_list(256), (0, 255))):
+        yield '256 parts, %d cables' % cables, lists.slots(words, 8), cable
+    again = reference.two(words[-1])[::-1]
+    yield '256 parts, 511 cables, refused 7', lists.slots(words, 8), again
+    yield '256 parts, 511 cables, refused 8', lists.slots(words, 8), (0, 128)
+
+
+class EditorDriver(Linked):
+    def __init__(self, folder, archive):
+        missing = {'dovranis_propose', 'dovranis_commit'} - functions_of(archive)
+        if missing:
+            sys.exit('the archive has no %s' % ' and no '.join(sorted(missing)))
+        super().__init__(folder, archive, EDITOR_DRIVER, [])
+
+    def instructions(self, name, words, cable, call):
+        """Of ours and of the baseline, whose answers are compared."""
+        def asked(which):
+            return [self.keep(words), call, which, *map(str, cable), str(words[0] & 0xffff)]
+
+        got = subprocess.run([self.program, *asked('both')], check=True, stdout=subprocess.PIPE, text=True).stdout.split()
+        if got != ['1', name.split()[-1] if 'refused' in name else '0']:
+            sys.exit('%s, %s: the answers differ, or the result is %s' % (name, call, got[1]))
+        return [self.traced(prefix + call, asked(which))[1] for prefix, which in (('dovranis_', 'ours'), ('baseline_', 'baseline'))]
+
+
+def editor(driver, asked):
+    print('| row | propose | baseline | ratio | commit | baseline | ratio |\n|---|' + '---:|' * 6)
+    for name, words, cable in chosen(rows(), asked):
+        row = []
+        for call in ('propose', 'commit'):
+            i, j = driver.instructions(name, words, cable, call)
+            row += ['{:,}'.format(i), '{:,}'.format(j), '%.1f' % (i / j)]
+        print('| %s | %s |' % (name, ' | '.join(row)), flush=True)
 
 
 # Where the instructions go. The archive has one large function with most others inside: the call, or one that it calls. So each of its instructions is given to
@@ -495,6 +580,8 @@ def main(args):
         if archive is None:
             door.build()
             archive = door.ARCHIVE
+        if '--editor' in args:
+            return editor(EditorDriver(os.path.join(folder, 'editor'), archive), asked)
         driver = Driver(os.path.join(folder, 'plain'), archive)
         if '--functions' in args:
             return functions(driver, Driver(os.path.join(folder, 'stages'), archive, ['-DBASELINE_STAGES']), asked)

@@ -1,15 +1,15 @@
 // Makes every call of a stored file, for the gate: standard input holds for each call the count of its list's words, whether a discount is given, the discount, the column pitch,
 // the row pitch, the margin, and the list's words, each most significant byte first. Each list is drawn with room to spare, filled with a mark; a sheet also with the exact room and with one
 // word less, a refused list also with no room. Printed are the answers, the sheet's words, and whether what lies behind them is as it was.
+use console::MOST_READ;
+use console::read_input;
+use console::say;
+use console::say_number;
+use console::say_refused;
+use console::say_words;
 use drawing::spacing::Spacing;
 use hookup::Answer;
 use hookup::Options;
-use libc::STDIN_FILENO;
-use libc::STDOUT_FILENO;
-use text::bytes::read_words;
-use text::lines::put_hex_lines;
-use text::lines::put_number;
-use text::lines::put_refused;
 use words::limits::MOST_QUOTED_WORDS;
 ghost use Prim.Native.Nat.{_+_, _<_};
 ghost use lib.ListN.{length};
@@ -18,31 +18,6 @@ const MARK: u32 = 0xa5a5_a5a5;
 
 // Room to spare for every sheet.
 const ROW: usize = 2 * MOST_QUOTED_WORDS;
-
-fn say(text: &[u8]) {
-    io::write_all(STDOUT_FILENO, text);
-}
-
-// The first n bytes of a buffer.
-fn say_first(out: &[u8], n: usize) {
-    if n <= out.len() {
-        say(&out[..n]);
-    }
-}
-
-fn say_number(x: usize) {
-    let mut out = [0u8; 32];
-    let n = put_number(&mut out, 0, x);
-    say_first(&out, n);
-}
-
-fn say_words(words: &[u32]) {
-    if words.len() <= ROW {
-        let mut out = [0u8; 9 * ROW];
-        let n = put_hex_lines(&mut out, 0, words);
-        say_first(&out, n);
-    }
-}
 
 fn say_answer(answer: Answer) {
     match answer {
@@ -53,11 +28,7 @@ fn say_answer(answer: Answer) {
             say_number(crossings);
             say(b"\n");
         }
-        Answer::Refused { check, place } => {
-            let mut out = [0u8; 64];
-            let n = put_refused(&mut out, 0, check as usize, place);
-            say_first(&out, n);
-        }
+        Answer::Refused { check, place } => say_refused(check, place),
     }
 }
 
@@ -188,9 +159,7 @@ fn draw_all(words: &[u32]) {
 }
 
 fn main() {
-    let mut bytes = [0u8; 131072];
-    let n = io::read_full(STDIN_FILENO, &mut bytes);
-    let mut words = [0u32; 32768];
-    let count = read_words(&bytes[..n], &mut words);
+    let mut words = [0u32; MOST_READ];
+    let count = read_input(&mut words);
     draw_all(&words[..count]);
 }

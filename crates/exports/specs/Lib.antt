@@ -1,2 +1,3 @@
 -- What the exported calls give. Assumes nothing.
 pub mod Call
+pub mod Editing

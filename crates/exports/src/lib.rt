@@ -4,6 +4,9 @@ use hookup::Answer;
 use hookup::Options;
 use hookup::draw;
 use words::limits;
+
+pub mod editing;
+
 ghost use mathlib.Core.Path.{_≡_};
 ghost use Rattle.hookup.specs.Options.{plain, quoted, spacedBy};
 ghost use Rattle.exports.specs.Call.{mostWords, mostQuotedWords, lent, Numbered, Told, Called};
@@ -28,6 +31,14 @@ pub extern "C" fn dovranis_most_quoted_words() -> usize
     MOST_QUOTED_WORDS
 }
 
+// A refusal: its place is stored, its number is the result.
+fn refuse(check: u8, found: usize, place: &mut usize) -> u32
+    ensures { λ r. ⌜ (r ≡ check) × (now (place .exit) ≡ found) ⌝ }
+{
+    *place = found;
+    check as u32
+}
+
 // An answer by a result and lent numbers: 0 for a sheet, with its words and crossings stored, and the check's number for a refusal, with its place stored.
 fn tell(answer: Answer, words: &mut usize, crossings: &mut usize, place: &mut usize) -> u32
     requires { ⌜ Numbered answer ⌝ }
@@ -47,10 +58,7 @@ fn tell(answer: Answer, words: &mut usize, crossings: &mut usize, place: &mut us
         Answer::Refused {
             check,
             place: found,
-        } => {
-            *place = found;
-            check as u32
-        }
+        } => refuse(check, found, place),
     }
 }
 

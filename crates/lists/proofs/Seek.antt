@@ -91,3 +91,15 @@ module _ (p : ℕ → Bool) where
       go : ((y : ℕ) × (seek p i k ≡ At y) × First p i k y) ⊎ ((seek p i k ≡ Nothing) × None p i k) → seek p i k ≡ Nothing
       go (inl f) = absurd (false≢true (sym (g (f .0) (f .2 .from) (f .2 .below)) ∙ f .2 .passes))
       go (inr f) = f .0
+
+  -- of one number more than k, where none of the k passes
+  pub seek-last : (i k : ℕ) → None p i k → seek p i (suc k) ≡ cond (p (i + k)) (At (i + k)) Nothing
+  seek-last i k g = go (p (i + k)) refl
+    where
+      others : p (i + k) ≡ false → (j : ℕ) → i ≤ j → j < i + suc k → Dec (j ≡ i + k) → p j ≡ false
+      others e j a b (yes q) = ap p q ∙ e
+      others e j a b (no n) = g j a (omega arith)
+
+      go : (b : Bool) → p (i + k) ≡ b → seek p i (suc k) ≡ cond b (At (i + k)) Nothing
+      go true e = seek-first i (suc k) (record { from = omega arith; below = omega arith; passes = e; none = g })
+      go false e = seek-none i (suc k) (λ j a b. others e j a b (ℕ-discrete j (i + k)))

@@ -39,7 +39,7 @@ use Rattle.station.specs.Checks.{
 use Rattle.station.specs.Code.{upTo}
 use Rattle.station.proofs.FirstRefusal.{upTo-each}
 
-atWhen-nothing : (b : Bool) (place : ℕ) → atWhen b place ≡ Nothing → b ≡ false
+pub atWhen-nothing : (b : Bool) (place : ℕ) → atWhen b place ≡ Nothing → b ≡ false
 unfolding atWhen
 atWhen-nothing true place e = let z : _≡_ {A = ℕ} 0 1 = cc in absurd (omega arith)
 atWhen-nothing false place e = refl

@@ -1,9 +1,9 @@
--- `cases::say_first` meets its contract: the part that is lent is as long as it says. Assumes nothing.
+-- `console::say_first` meets its contract: the part that is lent is as long as it says. Assumes nothing.
 use mathlib.Core.Path.{sym}
 use borrow.Author.Needs.{needs}
 use lib.Seq.{length-take-le}
-use Rattle.cases.proofs.say_first.Statement.{statement}
-use Rattle.cases.proofs.say_first.Tie as tie
+use Rattle.console.proofs.say_first.Statement.{statement}
+use Rattle.console.proofs.say_first.Tie as tie
 
 slice-aggregate-say : tie.Need-slice-aggregate-say
 slice-aggregate-say c = sym (length-take-le _ _ (search needs))

@@ -1,0 +1,2 @@
+-- What is read from standard input. Assumes nothing.
+pub mod Input

@@ -1,0 +1,7 @@
+-- Request 2026-07: the list in a lent row, trying a cable and laying it, and what any run of these leaves. Assumes nothing.
+pub mod Rows
+pub mod Checks
+pub mod Operations
+pub mod Runs
+-- What only the contracts of code cite
+pub mod Code
