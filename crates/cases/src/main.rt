@@ -78,7 +78,7 @@ fn say_same(a: &[u32], b: &[u32]) {
 // The answer for a list with room for so many words of a row.
 fn draw_in(list: &[u32], row: &mut [u32], room: usize, options: Options) {
     if room <= row.len() {
-        say_answer(hookup::draw(list, &mut row[..room], options));
+        say_answer(drafting::draw(list, &mut row[..room], options));
     }
 }
 
@@ -109,7 +109,7 @@ fn draw_sheet(list: &[u32], row: &[u32], k: usize, options: Options) {
 
 fn draw_list(list: &[u32], options: Options) {
     let mut row = [MARK; ROW];
-    let answer = hookup::draw(list, &mut row, options);
+    let answer = drafting::draw(list, &mut row, options);
     say_answer(answer);
     match answer {
         Answer::Sheet {

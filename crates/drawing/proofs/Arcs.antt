@@ -8,11 +8,11 @@ use mathlib.Core.Bool.{true}
 use mathlib.Core.Logic.{_⊎_, inl, inr}
 use mathlib.Core.List.{List}
 use lib.ListN.{length}
-use Rattle.drawing.specs.Spots.{Spot}
-use Rattle.drawing.specs.Lines.{OnLine, OnLevel, OnUpright, Upright, NoPoint, CrossesOver, CrossingAt, Meetings}
+use Rattle.geometry.specs.Spots.{Spot}
+use Rattle.geometry.specs.Lines.{OnLine, OnLevel, OnUpright, Upright, NoPoint, CrossesOver, CrossingAt, CommonPart, Meetings}
 use Rattle.drawing.specs.Drawing.{Drawing, routeAt, pointsAt, Meets, crossPair}
-use Rattle.drawing.proofs.Spots.{spot-path}
-use Rattle.drawing.proofs.Crossing.{linesCross-e, linesCross-i}
+use Rattle.geometry.proofs.Spots.{spot-path}
+use Rattle.geometry.proofs.Crossing.{linesCross-e, linesCross-i}
 
 -- a crossing lies on both lines
 level-line : (ps qs : List Spot) (s : Spot) → CrossesOver ps qs s → OnLine ps s
@@ -37,22 +37,22 @@ module _ {n m : ℕ} {spot : ℕ → Spot} {first last : ℕ → ℕ} {points : 
   one-way i h s (k, g, l, o) (j, f, u, p) N = go (decLt j k) (decLt k j)
     where
       go : Dec (j < k) → Dec (k < j) → ⊥
-      go (yes a) b = N k (omega (arith, g)) (sym (M .itself i j k h a g s p o .1))
-      go (no a) (yes b) = N j (omega (arith, f)) (sym (M .itself i k j h b f s o p .1))
-      go (no a) (no b) = let e : j ≡ k = omega arith in M .differ i k h g (spot-path (subst (λ (z : ℕ). Upright (points i) z) e u) l)
+      go (yes a) b = N k (omega (arith, g)) (sym (M .alone i h .itself j k a g s p o .1))
+      go (no a) (yes b) = N j (omega (arith, f)) (sym (M .alone i h .itself k j b f s o p .1))
+      go (no a) (no b) = let e : j ≡ k = omega arith in M .alone i h .differ k g (spot-path (subst (λ (z : ℕ). Upright (points i) z) e u) l)
 
   -- the spot of a part is a point of each cable that joins it
   part-point : (i : ℕ) → i < m → (s : Spot) → NoPoint (points i) s → (k : ℕ) → (k ≡ first i) ⊎ (k ≡ last i) → spot k ≡ s → ⊥
-  part-point i h s N k (inl e) f = N 0 (omega (arith, M .two i h)) (M .starts i h ∙ ap spot (sym e) ∙ f)
+  part-point i h s N k (inl e) f = N 0 (omega (arith, M .alone i h .two)) (M .alone i h .starts ∙ ap spot (sym e) ∙ f)
   part-point i h s N k (inr e) f =
-      N (length (points i) - 1) (omega (arith, M .two i h)) (M .ends i (length (points i) - 1) h (omega (arith, M .two i h)) ∙ ap spot (sym e) ∙ f)
+      N (length (points i) - 1) (omega (arith, M .alone i h .two)) (M .alone i h .ends (length (points i) - 1) (omega (arith, M .alone i h .two)) ∙ ap spot (sym e) ∙ f)
 
   module _ (i j : ℕ) (g : i < m) (h : j < m) (f : i ≡ j → ⊥) (s : Spot) (a : OnLine (points i) s) (b : OnLine (points j) s) (N : NoPoint (points i) s) where
     crossing-at : CrossingAt (points i) (points j) s
-    crossing-at = go (M .shared i j g h f s a b)
+    crossing-at = go (M .together i j g h f .shared s a b)
       where
         go :
-            CrossingAt (points i) (points j) s ⊎ ((k : ℕ) × ((k ≡ first i) ⊎ (k ≡ last i)) × ((k ≡ first j) ⊎ (k ≡ last j)) × (spot k ≡ s))
+            CrossingAt (points i) (points j) s ⊎ CommonPart spot (first i) (last i) (first j) (last j) s
             → CrossingAt (points i) (points j) s
         go (inl X) = X
         go (inr (k, c, d, e)) = absurd (part-point i g s N k c e)
@@ -118,4 +118,4 @@ module _ (d : Drawing) (M : Meets d) (i j : ℕ) (f : i < j) (g : j < length (d 
   unfolding crossPair pointsAt
   one-arc h =
       let X = linesCross-e (pointsAt d i) (pointsAt d j) h in
-      (X .0, X .1, λ r Y. M .once i j (omega arith) g (λ e. omega arith) r (X .0) Y (X .1))
+      (X .0, X .1, λ r Y. M .together i j (omega arith) g (λ e. omega arith) .once r (X .0) Y (X .1))

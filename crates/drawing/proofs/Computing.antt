@@ -1,7 +1,7 @@
 -- The definitions that worked examples compute with, opened together: an example names `drawing-computing` on its unfolding line. Assumes nothing.
-use Rattle.drawing.specs.Spots.{sameSpot}
-use Rattle.drawing.specs.Lines.{point}
-use Rattle.drawing.specs.Crossing.{between, meetingSpot, runsCross, crossesOver, linesCross}
+use Rattle.geometry.specs.Spots.{sameSpot}
+use Rattle.geometry.specs.Lines.{point}
+use Rattle.geometry.specs.Crossing.{between, meetingSpot, runsCross, crossesOver, linesCross}
 use Rattle.drawing.specs.Drawing.{spotOf, routePoints, routeAt, pointsAt, crossPair, crossingsOf, crossings, renumbered}
 use Rattle.drawing.specs.Lengths.{steps, lineLength, gridLength, cableLengths}
 use Rattle.drawing.specs.Sheet.{partSpotWord, cornerSpotWord, routeWords, routesWords, lengthWords, headSection, partsSection, cablesSection, lengthsSection, quoteSection, drawingWords, sheetWords, quotedWords}

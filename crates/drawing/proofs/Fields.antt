@@ -15,7 +15,7 @@ use Rattle.lists.proofs.Select.{getD-mem, filter-e, filter-i}
 use Rattle.lists.proofs.Any.{any-at-e, any-at-i}
 use Rattle.lists.proofs.Places.{mem-place}
 use Rattle.words.specs.Limits.{mostField}
-use Rattle.drawing.specs.Spots.{Spot}
+use Rattle.geometry.specs.Spots.{Spot}
 use Rattle.drawing.specs.Drawing.{Route, Drawing}
 use Rattle.drawing.specs.Spacing.{cornerSpots, coordinates, numbersOf, largest, tooLarge, check14}
 

@@ -16,7 +16,7 @@ EndsInside d = (r : Route) → List·Memᴰ r (d .routes) → Inside (length (d 
 
 module _ (d : Drawing) (M : Meets d) where
   pub inside-at : (i : ℕ) → i < length (d .routes) → Inside (length (d .parts)) (routeAt d i)
-  inside-at i h = let p = M .parts i h in record { first-inside = p .0; last-inside = p .1 }
+  inside-at i h = let p = M .alone i h .parts in record { first-inside = p .0; last-inside = p .1 }
 
   pub ends-inside : EndsInside d
   unfolding routeAt

@@ -6,6 +6,7 @@ use mathlib.Core.Logic.{_⊎_, inl, inr}
 use mathlib.Core.List.{List, [], _∷_, map, List·Memᴰ, List·Memᴰ·append-cases, List·Memᴰ·eq-of-singleton}
 use lib.ListN.{length, getD, take, length-append, List·getD-append}
 use lib.Seq.{take-at, getD-at}
+use Rattle.words.specs.Limits.{mostField}
 use Rattle.lists.specs.Select.{tabulate, sum}
 use Rattle.lists.proofs.Select.{length-tabulate, getD-tabulate}
 use Rattle.lists.proofs.Places.{mem-place}
@@ -17,7 +18,7 @@ use Rattle.words.proofs.Words.{LineFields, lineFields-apart, wideField-apart}
 use Rattle.drawing.specs.Sheet.{lengthWords}
 
 pub record LengthsFit (lengths : List ℕ) : Type 0 where
-  pub each : (i : ℕ) → i < length lengths → getD lengths i 0 < 4096
+  pub each : (i : ℕ) → i < length lengths → getD lengths i 0 ≤ mostField
   pub total : sum lengths < 2 ^ 28
 
 module _ (lengths : List ℕ) where

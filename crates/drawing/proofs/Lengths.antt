@@ -5,7 +5,7 @@ use mathlib.Core.Path.{_≡_, refl}
 use mathlib.Core.List.{List, [], _∷_, reverse, reverseAux}
 use lib.ListN.{length, getD}
 use Rattle.lists.proofs.Select.{length-tabulate, getD-tabulate}
-use Rattle.drawing.specs.Spots.{Spot}
+use Rattle.geometry.specs.Spots.{Spot}
 use Rattle.drawing.specs.Drawing.{Drawing, pointsAt}
 use Rattle.drawing.specs.Lengths.{steps, distance, lineLength, cableLengths}
 

@@ -1,8 +1,6 @@
 -- Laws of drawings: spots and their test (Spots), the test that lines cross (Crossing), an arc for each pair that does (Arcs), the lengths of lines (Lengths)
 -- and their words (LengthWords), drawings that are spaced (Spaced, SpacedCrossings) and whose numbers fit (Fields), all words read back (ReadBack, Measured) and counted (WordCounts), other numbers of the parts (Renaming,
 -- Renumbered), sizes (Sized), what the cables cost behind them (Quoted), and small examples (Worked). Assumes nothing.
-pub mod Spots
-pub mod Crossing
 pub mod Arcs
 pub mod Lengths
 pub mod LengthWords
@@ -14,7 +12,6 @@ pub mod Fields
 pub mod ReadBack
 pub mod Measured
 pub mod WordCounts
-pub mod Renaming
 pub mod Renumbered
 pub mod Sized
 pub mod Quoted

@@ -11,14 +11,14 @@ use Rattle.drawing.specs.Drawing.{Drawing, pointsAt, Meets}
 use Rattle.drawing.specs.Lengths.{lineLength, gridLength, cableLengths, mostLength}
 use Rattle.drawing.specs.Spacing.{spaced}
 use Rattle.drawing.specs.Sheet.{lengthWords, lengthsSection, drawingWords, sheetWords}
-use Rattle.drawing.specs.Reading.{Ends, drawingIn, behindDrawing, lengthsIn, quoteIn}
+use Rattle.drawing.specs.Reading.{Endpoints, drawingIn, behindDrawing, lengthsIn, quoteIn}
 use Rattle.drawing.specs.Measured.{Measured}
 use Rattle.drawing.proofs.Lengths.{lengths-count, length-at}
 use Rattle.drawing.proofs.LengthWords.{LengthsFit, lengthWords-length, record-kind, record-line, record-length, records-read, total-kind, total-read}
 use Rattle.drawing.proofs.ReadBack.{DrawingFits, read-back, behind-back}
 use Rattle.drawing.proofs.Spaced.{Spreads, routes-spaced, points-spaced, length-spaced}
 
-module _ (s : Spacing) (n : ℕ) (ends : List Ends) (d : Drawing) (F : DrawingFits n ends (spaced s d)) where
+module _ (s : Spacing) (n : ℕ) (ends : List Endpoints) (d : Drawing) (F : DrawingFits n ends (spaced s d)) where
   -- Sections read back, whatever lies behind the lengths
 
   behind : (rest : List ℕ) → behindDrawing n (length (d .routes)) (sheetWords s d ++ rest) ≡ lengthsSection d ++ rest

@@ -4,41 +4,41 @@ use native.Mathlib.Omega.{arith}
 use native.Mathlib.Numerals.{add-one}
 use mathlib.Core.Path.{_≡_, refl, sym, ap, ap₂, _∙_}
 use mathlib.Core.Logic.{_⊎_, inl, inr, ⊎-elim}
-use mathlib.Core.List.{List, [], _∷_, _++_, map, append-assoc}
-use mathlib.Core.List.{List·Memᴰ, List·Memᴰ·cases-cons, List·Memᴰ·not-nil, List·Memᴰ·append-cases}
+use mathlib.Core.List.{List, [], _∷_, _++_, map, append-assoc, List·Memᴰ, List·Memᴰ·cases-cons, List·Memᴰ·not-nil, List·Memᴰ·append-cases}
 use lib.ListN.{length, getD, take, drop, length-map}
 use lib.Seq.{take-at, drop-at}
+use Rattle.words.specs.Limits.{mostField}
 use Rattle.words.specs.Words.{secondOf, sheetHead, sheetHeadWord, part, sheetCable, sheetCableWord, corner}
 use Rattle.words.proofs.Words.{fields-apart, lineFields-apart}
-use Rattle.drawing.specs.Spots.{Spot, origin}
+use Rattle.geometry.specs.Spots.{Spot, origin}
 use Rattle.drawing.specs.Drawing.{Route, noRoute, Drawing}
 use Rattle.drawing.specs.Sheet.{partSpotWord, cornerSpotWord, routeWords, routesWords, headSection, partsSection, cablesSection, drawingWords}
-use Rattle.drawing.specs.Reading.{Ends, noEnds, wordSpot, routesIn, drawingIn, behindCables, behindDrawing}
-use Rattle.drawing.proofs.Spots.{spot-path}
+use Rattle.drawing.specs.Reading.{Endpoints, noEndpoints, wordSpot, routesIn, drawingIn, behindCables, behindDrawing}
+use Rattle.geometry.proofs.Spots.{spot-path}
 
 -- Numbers that fit their fields
 
 pub record SpotFits (s : Spot) : Type 0 where
-  pub x-fits : s .x < 4096
-  pub y-fits : s .y < 4096
+  pub x-fits : s .x ≤ mostField
+  pub y-fits : s .y ≤ mostField
 
 abbrev pub AllFit : List Spot → Type 0
 AllFit l = (k : ℕ) → k < length l → SpotFits (getD l k origin)
 
 -- a route between the two parts of a cable
-pub record RouteFits (e : Ends) (r : Route) : Type 0 where
+pub record RouteFits (e : Endpoints) (r : Route) : Type 0 where
   pub first-is : r .first ≡ e .first
   pub last-is : r .last ≡ e .last
-  pub few : length (r .corners) < 4096
+  pub few : length (r .corners) ≤ mostField
   pub corners-fit : AllFit (r .corners)
 
-pub record DrawingFits (n : ℕ) (ends : List Ends) (d : Drawing) : Type 0 where
-  pub width-fits : d .width < 4096
-  pub height-fits : d .height < 4096
+pub record DrawingFits (n : ℕ) (ends : List Endpoints) (d : Drawing) : Type 0 where
+  pub width-fits : d .width ≤ mostField
+  pub height-fits : d .height ≤ mostField
   pub parts-count : length (d .parts) ≡ n
   pub parts-fit : AllFit (d .parts)
   pub routes-count : length (d .routes) ≡ length ends
-  pub routes-fit : (i : ℕ) → i < length ends → RouteFits (getD ends i noEnds) (getD (d .routes) i noRoute)
+  pub routes-fit : (i : ℕ) → i < length ends → RouteFits (getD ends i noEndpoints) (getD (d .routes) i noRoute)
 
 -- Spots
 
@@ -75,8 +75,8 @@ unfolding routesWords
 route-front line r rs rest = append-assoc (routeWords line (r .corners)) (routesWords (line + 1) rs) rest
 
 routes-back :
-    (es : List Ends) (rs : List Route) (line : ℕ) (rest : List ℕ) → length rs ≡ length es
-    → ((i : ℕ) → i < length es → RouteFits (getD es i noEnds) (getD rs i noRoute)) → routesIn es (routesWords line rs ++ rest) ≡ rs
+    (es : List Endpoints) (rs : List Route) (line : ℕ) (rest : List ℕ) → length rs ≡ length es
+    → ((i : ℕ) → i < length es → RouteFits (getD es i noEndpoints) (getD rs i noRoute)) → routesIn es (routesWords line rs ++ rest) ≡ rs
 unfolding routesIn routeWords
 routes-back [] [] line rest h f = refl
 routes-back [] (r ∷ rs) line rest h f = absurd (omega arith)
@@ -96,8 +96,8 @@ routes-back (e ∷ es) (r ∷ rs) line rest h f =
 
 -- and what is left behind them
 routes-behind :
-    (es : List Ends) (rs : List Route) (line : ℕ) (rest : List ℕ) → length rs ≡ length es
-    → ((i : ℕ) → i < length es → RouteFits (getD es i noEnds) (getD rs i noRoute)) → behindCables (length rs) (routesWords line rs ++ rest) ≡ rest
+    (es : List Endpoints) (rs : List Route) (line : ℕ) (rest : List ℕ) → length rs ≡ length es
+    → ((i : ℕ) → i < length es → RouteFits (getD es i noEndpoints) (getD rs i noRoute)) → behindCables (length rs) (routesWords line rs ++ rest) ≡ rest
 unfolding behindCables routeWords routesWords
 routes-behind [] [] line rest h f = refl
 routes-behind [] (r ∷ rs) line rest h f = absurd (omega arith)
@@ -130,7 +130,7 @@ parts-taken l rest n e = take-at (map partSpotWord l) rest n (length-map l partS
 parts-dropped : (l : List Spot) (w : ℕ) (rest : List ℕ) (n : ℕ) → length l ≡ n → drop (1 + n) (w ∷ map partSpotWord l ++ rest) ≡ rest
 parts-dropped l w rest n e = let q : 1 + n ≡ suc n = omega arith in rw q (drop-at (map partSpotWord l) rest n (length-map l partSpotWord ∙ e))
 
-module _ (n : ℕ) (ends : List Ends) (d : Drawing) (F : DrawingFits n ends d) where
+module _ (n : ℕ) (ends : List Endpoints) (d : Drawing) (F : DrawingFits n ends d) where
   -- a drawing is read the same whatever lies behind its words
   pub read-back : (rest : List ℕ) → drawingIn n ends (drawingWords d ++ rest) ≡ d
   unfolding drawingIn
@@ -173,7 +173,7 @@ unfolding cornerSpotWord
 corner-word-fits s f = fields-apart corner (s .x) (s .y) (omega arith) (f .x-fits) (f .y-fits) .fits
 
 route-words-fit :
-    (line : ℕ) (corners : List Spot) → line < 65536 → length corners < 4096 → AllFit corners
+    (line : ℕ) (corners : List Spot) → line < 65536 → length corners ≤ mostField → AllFit corners
     → (w : ℕ) → List·Memᴰ w (routeWords line corners) → w < 2 ^ 32
 unfolding routeWords
 route-words-fit line corners h few f w m = go (List·Memᴰ·cases-cons m)
@@ -183,8 +183,8 @@ route-words-fit line corners h few f w m = go (List·Memᴰ·cases-cons m)
     go (inr n) = spot-words-fit cornerSpotWord corner-word-fits corners f w n
 
 routes-words-fit :
-    (es : List Ends) (rs : List Route) (line : ℕ) → length rs ≡ length es → line + length es ≤ 65536
-    → ((i : ℕ) → i < length es → RouteFits (getD es i noEnds) (getD rs i noRoute))
+    (es : List Endpoints) (rs : List Route) (line : ℕ) → length rs ≡ length es → line + length es ≤ 65536
+    → ((i : ℕ) → i < length es → RouteFits (getD es i noEndpoints) (getD rs i noRoute))
     → (w : ℕ) → List·Memᴰ w (routesWords line rs) → w < 2 ^ 32
 unfolding routesWords
 routes-words-fit [] [] line e h f w m = absurd (List·Memᴰ·not-nil m)
@@ -199,7 +199,7 @@ routes-words-fit (c ∷ cs) (r ∷ rs) line e h f w m =
     (List·Memᴰ·append-cases (routeWords line (r .corners)) m)
 
 pub words-fit :
-    (n : ℕ) (ends : List Ends) (d : Drawing) → DrawingFits n ends d → length ends ≤ 65536
+    (n : ℕ) (ends : List Endpoints) (d : Drawing) → DrawingFits n ends d → length ends ≤ 65536
     → (w : ℕ) → List·Memᴰ w (drawingWords d) → w < 2 ^ 32
 unfolding drawingWords headSection partsSection cablesSection
 words-fit n ends d f h w m = go (List·Memᴰ·cases-cons m)

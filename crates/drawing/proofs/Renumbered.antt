@@ -8,16 +8,15 @@ use Rattle.lists.specs.Select.{tabulate, sum, indexOf}
 use Rattle.lists.proofs.Select.{getD-map, length-tabulate, getD-tabulate}
 use Rattle.lists.proofs.Agree.{tabulate-same}
 use Rattle.drawing.specs.declared.spacing.Spacing.{Spacing}
-use Rattle.drawing.specs.Spots.{Spot, origin}
-use Rattle.drawing.specs.Lines.{Meetings}
-use Rattle.drawing.specs.Crossing.{linesCross}
-use Rattle.drawing.specs.Drawing.{Route, noRoute, Drawing, spotOf, routePoints, routeAt, pointsAt, Meets}
-use Rattle.drawing.specs.Drawing.{crossPair, crossingsOf, crossings, renumbered}
+use Rattle.geometry.specs.Spots.{Spot, origin}
+use Rattle.geometry.specs.Lines.{Meetings}
+use Rattle.geometry.specs.Crossing.{linesCross}
+use Rattle.drawing.specs.Drawing.{Route, noRoute, Drawing, spotOf, routePoints, routeAt, pointsAt, Meets, crossPair, crossingsOf, crossings, renumbered}
 use Rattle.drawing.specs.Lengths.{lineLength, cableLengths}
 use Rattle.drawing.specs.Sheet.{sheetWords}
 use Rattle.drawing.specs.Counts.{cornerCount}
 use Rattle.drawing.proofs.WordCounts.{words-length}
-use Rattle.drawing.proofs.Renaming.{Renames, renamed}
+use Rattle.geometry.proofs.Renaming.{Renames, renamed}
 use Rattle.drawing.proofs.Inside.{Inside, inside-at, ends-inside}
 use Rattle.drawing.proofs.Pairs.{pairs-same}
 

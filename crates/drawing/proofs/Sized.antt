@@ -5,6 +5,7 @@ use native.Mathlib.Omega.{arith}
 use mathlib.Core.Path.{_≡_, refl, sym, ap, subst, _∙_}
 use mathlib.Core.List.{List, map, map-map, List·Memᴰ, List·Memᴰ·tail, Memᴰ·append-left}
 use lib.ListN.{length, getD, length-map}
+use Rattle.words.specs.Limits.{mostField}
 use Rattle.lists.specs.declared.Found.the-variants.{Nothing}
 use Rattle.lists.specs.Select.{tabulate, count, indexOf}
 use Rattle.lists.proofs.Select.{getD-map, getD-mem}
@@ -13,13 +14,13 @@ use Rattle.lists.proofs.Maps.{map-tabulate}
 use Rattle.lists.proofs.Agree.{tabulate-same}
 use Rattle.lists.proofs.Increasing.{increasing-le}
 use Rattle.drawing.specs.declared.spacing.Spacing.{Spacing}
-use Rattle.drawing.specs.Spots.{Spot, origin}
-use Rattle.drawing.specs.Lines.{point}
+use Rattle.geometry.specs.Spots.{Spot, origin}
+use Rattle.geometry.specs.Lines.{point}
 use Rattle.drawing.specs.Drawing.{Drawing, Route, noRoute, spotOf, routePoints, routeAt, pointsAt, Meets, renumbered}
 use Rattle.drawing.specs.Spacing.{columnAt, rowAt, spacedSpot, spacedRoute, spaced, check14}
-use Rattle.drawing.specs.Reading.{Ends, noEnds}
+use Rattle.drawing.specs.Reading.{Endpoints, noEndpoints}
 use Rattle.drawing.specs.Counts.{cornerCount, isCorner}
-use Rattle.drawing.specs.Sizes.{Sizes}
+use Rattle.drawing.specs.Sizes.{Sizes, Bends}
 use Rattle.drawing.proofs.ReadBack.{SpotFits, DrawingFits}
 use Rattle.drawing.proofs.Spaced.{Increases, parts-spaced, routes-spaced, spot-spaced, first-spaced, last-spaced, corners-spaced, points-spaced}
 use Rattle.drawing.proofs.Fields.{Within, width-small, height-small, fields-small}
@@ -28,19 +29,19 @@ use Rattle.drawing.proofs.Renumbered.{Names, parts-renumbered, routes-r
 -- Whose drawing it is
 
 -- a route between the two parts of a cable, whose corners can be counted
-pub record RouteJoins (e : Ends) (r : Route) : Type 0 where
+pub record RouteJoins (e : Endpoints) (r : Route) : Type 0 where
   pub first-is : r .first ≡ e .first
   pub last-is : r .last ≡ e .last
-  pub few : length (r .corners) < 4096
+  pub few : length (r .corners) ≤ mostField
 
 -- a drawing of n parts and of cables between these ends
-pub record Joins (n : ℕ) (ends : List Ends) (d : Drawing) : Type 0 where
+pub record Joins (n : ℕ) (ends : List Endpoints) (d : Drawing) : Type 0 where
   pub parts-count : length (d .parts) ≡ n
   pub routes-count : length (d .routes) ≡ length ends
-  pub routes : (i : ℕ) → i < length ends → RouteJoins (getD ends i noEnds) (routeAt d i)
+  pub routes : (i : ℕ) → i < length ends → RouteJoins (getD ends i noEndpoints) (routeAt d i)
 
 -- where check 14 passes its numbers fit their fields
-pub joins-fit : (n : ℕ) (ends : List Ends) (d : Drawing) → Joins n ends d → check14 d ≡ Nothing → DrawingFits n ends d
+pub joins-fit : (n : ℕ) (ends : List Endpoints) (d : Drawing) → Joins n ends d → check14 d ≡ Nothing → DrawingFits n ends d
 unfolding routeAt
 joins-fit n ends d J pass = record {
   width-fits = omega (arith, width-small d pass);
@@ -59,31 +60,31 @@ joins-fit n ends d J pass = record {
       };
 }
   where
-    fit : {p : Spot} → (p .x ≤ 4095) × (p .y ≤ 4095) → SpotFits p
+    fit : {p : Spot} → (p .x ≤ mostField) × (p .y ≤ mostField) → SpotFits p
     fit h = record { x-fits = omega (arith, h .0); y-fits = omega (arith, h .1) }
 
 -- the two parts of a cable under their names
-abbrev pub named : List ℕ → Ends → Ends
+abbrev pub named : List ℕ → Endpoints → Endpoints
 named names e = record { first = getD names (e .first) 0; last = getD names (e .last) 0 }
 
 module _ (names : List ℕ) (d : Drawing) where
-  pub joins-renumbered : (n : ℕ) (ends : List Ends) → Joins n ends d → Joins n (map (named names) ends) (renumbered names d)
+  pub joins-renumbered : (n : ℕ) (ends : List Endpoints) → Joins n ends d → Joins n (map (named names) ends) (renumbered names d)
   joins-renumbered n ends J = record {
     parts-count = parts-renumbered names d ∙ J .parts-count;
     routes-count = routes-renumbered names d ∙ J .routes-count ∙ sym (length-map ends (named names));
     routes = λ i h.
         let g : i < length ends = omega (arith, length-map ends (named names)) in
         let b : i < length (d .routes) = omega (arith, J .routes-count) in
-        let e : getD (map (named names) ends) i noEnds ≡ named names (getD ends i noEnds) = getD-map (named names) ends i noEnds noEnds g in
+        let e : getD (map (named names) ends) i noEndpoints ≡ named names (getD ends i noEndpoints) = getD-map (named names) ends i noEndpoints noEndpoints g in
         let r = J .routes i g in
         record {
-          first-is = first-renumbered names d i b ∙ ap (λ (p : ℕ). getD names p 0) (r .first-is) ∙ sym (ap (λ (z : Ends). z .first) e);
-          last-is = last-renumbered names d i b ∙ ap (λ (p : ℕ). getD names p 0) (r .last-is) ∙ sym (ap (λ (z : Ends). z .last) e);
+          first-is = first-renumbered names d i b ∙ ap (λ (p : ℕ). getD names p 0) (r .first-is) ∙ sym (ap (λ (z : Endpoints). z .first) e);
+          last-is = last-renumbered names d i b ∙ ap (λ (p : ℕ). getD names p 0) (r .last-is) ∙ sym (ap (λ (z : Endpoints). z .last) e);
           few = omega (arith, ap length (corners-renumbered names d i b), r .few);
         };
   }
 
-pub joins-spaced : (s : Spacing) (n : ℕ) (ends : List Ends) (d : Drawing) → Joins n ends d → Joins n ends (spaced s d)
+pub joins-spaced : (s : Spacing) (n : ℕ) (ends : List Endpoints) (d : Drawing) → Joins n ends d → Joins n ends (spaced s d)
 joins-spaced s n ends d J = record {
   parts-count = parts-spaced s d ∙ J .parts-count;
   routes-count = routes-spaced s d ∙ J .routes-count;
@@ -117,7 +118,7 @@ spaced-renumbered s names d N =
 
 -- Sizes
 
--- of the drawing on the grid: its head, its corners counted, and each cable's
+-- of the drawing on the grid: its head, and its corners counted
 pub record GridSizes (n m : ℕ) (d : Drawing) : Type 0 where
   pub x-most : (i k : ℕ) → i < m → k < length (pointsAt d i) → point (pointsAt d i) k .x ≤ d .width
   pub x-reached : (i : ℕ) × (k : ℕ) × (i < m) × (k < length (pointsAt d i)) × (point (pointsAt d i) k .x ≡ d .width)
@@ -127,7 +128,6 @@ pub record GridSizes (n m : ℕ) (d : Drawing) : Type 0 where
   pub width : d .width + n ≡ m + 1
   pub height : d .height ≤ n + 1
   pub corners : cornerCount (d .routes) + (n + n) ≤ m + m + 4
-  pub bends : (i : ℕ) → i < m → length (routeAt d i .corners) ≤ 2
 
 module _ (names : List ℕ) (d : Drawing) (N : Names (length (d .parts)) names) (M : Meets d) (n m : ℕ) (parts : length (d .parts) ≡ n) (routes : length (d .routes) ≡ m) where
   same : (i : ℕ) → i < m → pointsAt d i ≡ pointsAt (renumbered names d) i
@@ -153,7 +153,6 @@ module _ (names : List ℕ) (d : Drawing) (N : Names (length (d .parts)) names) 
     width = S .width;
     height = S .height;
     corners = omega (arith, corner-count-renumbered names d, S .corners);
-    bends = λ i h. omega (arith, ap length (corners-renumbered names d i (omega (arith, routes))), S .bends i h);
   }
 
 -- on the sheet
@@ -246,6 +245,13 @@ module _ (s : Spacing) (I : Increases s) (d : Drawing) (M : Meets d) (n m : ℕ)
     width = S .width;
     height = S .height;
     corners = omega (arith, e, S .corners);
-    bends = λ i h.
-        omega (arith, ap length (corners-spaced s d i (omega (arith, routes))), length-map (routeAt d i .corners) (spacedSpot s), S .bends i h);
   }
+
+-- each cable's corners, with other numbers of the parts, and on the sheet
+pub bends-renumbered : (names : List ℕ) (d : Drawing) (m : ℕ) → length (d .routes) ≡ m → Bends m d → Bends m (renumbered names d)
+bends-renumbered names d m routes B = record { most = λ i h. omega (arith, ap length (corners-renumbered names d i (omega (arith, routes))), B .most i h) }
+
+pub bends-spaced : (s : Spacing) (d : Drawing) (m : ℕ) → length (d .routes) ≡ m → Bends m d → Bends m (spaced s d)
+bends-spaced s d m routes B = record {
+  most = λ i h. omega (arith, ap length (corners-spaced s d i (omega (arith, routes))), length-map (routeAt d i .corners) (spacedSpot s), B .most i h);
+}

@@ -16,12 +16,12 @@ use Rattle.lists.proofs.Bools.{or-fails}
 use Rattle.lists.proofs.Increasing.{Increasing, increasing-one}
 use Rattle.lists.proofs.Maps.{map-one}
 use Rattle.drawing.specs.declared.spacing.Spacing.{Spacing}
-use Rattle.drawing.specs.Spots.{Spot, origin}
+use Rattle.geometry.specs.Spots.{Spot, origin}
 use Rattle.drawing.specs.Drawing.{Route, noRoute, Drawing, spotOf, routePoints, routeAt, pointsAt, Meets}
 use Rattle.drawing.specs.Lengths.{steps, lineLength, gridLength}
 use Rattle.drawing.specs.Spacing.{columnAt, rowAt, spacedSpot, spacedRoute, spaced, onGrid, mostPitch, mostMargin, badPitch, check13}
 use Rattle.drawing.specs.Counts.{cornerCount}
-use Rattle.drawing.proofs.Spots.{spot-path}
+use Rattle.geometry.proofs.Spots.{spot-path}
 use Rattle.drawing.proofs.Lengths.{steps-up, steps-back}
 use Rattle.drawing.proofs.Inside.{Inside, inside-at}
 

@@ -12,12 +12,12 @@ use Rattle.lists.proofs.Filters.{any-same}
 use Rattle.lists.proofs.Maps.{any-map}
 use Rattle.lists.proofs.Increasing.{eqb-kept, leb-kept, min-kept, max-kept}
 use Rattle.drawing.specs.declared.spacing.Spacing.{Spacing}
-use Rattle.drawing.specs.Spots.{Spot, sameSpot, origin}
-use Rattle.drawing.specs.Lines.{point, IsRun}
-use Rattle.drawing.specs.Crossing.{between, meetingSpot, runsCross, crossesOver, linesCross}
+use Rattle.geometry.specs.Spots.{Spot, sameSpot, origin}
+use Rattle.geometry.specs.Lines.{point, IsRun}
+use Rattle.geometry.specs.Crossing.{between, meetingSpot, runsCross, crossesOver, linesCross}
 use Rattle.drawing.specs.Drawing.{Route, Drawing, Meets, crossPair, crossings}
 use Rattle.drawing.specs.Spacing.{columnAt, rowAt, spacedSpot, spacedRoute, spaced}
-use Rattle.drawing.proofs.Spots.{spot-path}
+use Rattle.geometry.proofs.Spots.{spot-path}
 use Rattle.drawing.proofs.Inside.{Inside, ends-inside}
 use Rattle.drawing.proofs.Pairs.{pairs-same}
 use Rattle.drawing.proofs.Spaced.{Increases, route-points}

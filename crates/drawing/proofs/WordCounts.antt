@@ -6,18 +6,19 @@ use mathlib.Core.Bool.{true, false}
 use mathlib.Core.List.{List, [], _∷_, _++_, map}
 use lib.ListN.{length, getD, length-append, length-map}
 use borrow.Author.Tests.{eq-eqb, ne-eqb}
+use Rattle.words.specs.Limits.{mostField}
 use Rattle.lists.specs.Select.{count, oneIf, sum}
 use Rattle.lists.proofs.Maps.{count-tabulate}
 use Rattle.lists.proofs.Sums.{count-append, count-none as count-range-none}
 use Rattle.words.specs.Words.{kindOf, sheetHead, sheetHeadWord, part, sheetCable, sheetCableWord, corner, cableLength, cableLengthWord, totalLength, totalLengthWord}
 use Rattle.words.proofs.Words.{fields-apart, lineFields-apart, wideField-apart}
 use Rattle.drawing.specs.declared.spacing.Spacing.{Spacing}
-use Rattle.drawing.specs.Spots.{Spot}
+use Rattle.geometry.specs.Spots.{Spot}
 use Rattle.drawing.specs.Drawing.{Route, noRoute, Drawing}
 use Rattle.drawing.specs.Sheet.{partSpotWord, cornerSpotWord, routeWords, routesWords, lengthWords, headSection, partsSection, cablesSection, lengthsSection, drawingWords, sheetWords}
 use Rattle.drawing.specs.Spacing.{spaced}
 use Rattle.drawing.specs.Lengths.{cableLengths}
-use Rattle.drawing.specs.Reading.{Ends, noEnds}
+use Rattle.drawing.specs.Reading.{Endpoints, noEndpoints}
 use Rattle.drawing.specs.Counts.{cornerCount, isCorner}
 use Rattle.drawing.proofs.Lengths.{lengths-count}
 use Rattle.drawing.proofs.LengthWords.{LengthsFit, records, record-fields, lengthWords-length}
@@ -107,7 +108,7 @@ corner-corner s f =
     eq-eqb (kindOf (cornerSpotWord s)) corner (fields-apart corner (s .x) (s .y) (omega arith) (f .x-fits) (f .y-fits) .kind-is)
 
 route-corners :
-    (line : ℕ) (corners : List Spot) → line < 65536 → length corners < 4096 → AllFit corners
+    (line : ℕ) (corners : List Spot) → line < 65536 → length corners ≤ mostField → AllFit corners
     → count isCorner (routeWords line corners) ≡ length corners
 unfolding routeWords count
 route-corners line corners h few f =
@@ -119,8 +120,8 @@ route-corners line corners h few f =
     )
 
 routes-corners :
-    (es : List Ends) (rs : List Route) (line : ℕ) → length rs ≡ length es → line + length es ≤ 65536
-    → ((i : ℕ) → i < length es → RouteFits (getD es i noEnds) (getD rs i noRoute)) → count isCorner (routesWords line rs) ≡ cornerCount rs
+    (es : List Endpoints) (rs : List Route) (line : ℕ) → length rs ≡ length es → line + length es ≤ 65536
+    → ((i : ℕ) → i < length es → RouteFits (getD es i noEndpoints) (getD rs i noRoute)) → count isCorner (routesWords line rs) ≡ cornerCount rs
 unfolding routesWords sum count
 routes-corners [] [] line e h f = refl
 routes-corners [] (r ∷ rs) line e h f = absurd (omega arith)
@@ -146,7 +147,7 @@ lengthWords-corners lengths F few =
       ap oneIf (no-corner totalLength _ (wideField-apart totalLength (sum lengths) (omega arith) (F .total) .kind-is) (λ e. omega arith)),
     )
 
-module _ (n : ℕ) (ends : List Ends) (d : Drawing) (F : DrawingFits n ends d) where
+module _ (n : ℕ) (ends : List Endpoints) (d : Drawing) (F : DrawingFits n ends d) where
   pub head-corners : count isCorner (headSection d) ≡ 0
   unfolding headSection count
   head-corners =
@@ -175,7 +176,7 @@ module _ (n : ℕ) (ends : List Ends) (d : Drawing) (F : DrawingFits n ends d) w
       )
 
 -- of a sheet, whose numbers fit as they are spaced
-module _ (s : Spacing) (n : ℕ) (ends : List Ends) (d : Drawing) (F : DrawingFits n ends (spaced s d)) (L : LengthsFit (cableLengths d)) where
+module _ (s : Spacing) (n : ℕ) (ends : List Endpoints) (d : Drawing) (F : DrawingFits n ends (spaced s d)) (L : LengthsFit (cableLengths d)) where
   lengths-corners : length ends ≤ 65536 → count isCorner (lengthsSection d) ≡ 0
   unfolding lengthsSection
   lengths-corners h = lengthWords-corners (cableLengths d) L (omega (arith, lengths-count d, routes-spaced s d, F .routes-count))

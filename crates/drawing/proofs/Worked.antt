@@ -2,18 +2,18 @@
 use Prim.Native.Nat.{ℕ}
 use mathlib.Core.Path.{_≡_, refl}
 use mathlib.Core.List.{List, [], _∷_, _++_}
-use Rattle.drawing.specs.Spots.{Spot, spotAt}
+use Rattle.geometry.specs.Spots.{Spot, spotAt}
 use Rattle.drawing.specs.Drawing.{Route, Drawing, crossings}
 use Rattle.prices.specs.declared.Discount.the-variants.{NotGiven, Given}
 use Rattle.drawing.specs.Spacing.{onGrid}
 use Rattle.drawing.specs.Sheet.{sheetWords, quotedWords}
-use Rattle.drawing.specs.Reading.{Ends, drawingIn, lengthsIn, quoteIn}
+use Rattle.drawing.specs.Reading.{Endpoints, drawingIn, lengthsIn, quoteIn}
 use Rattle.drawing.proofs.Computing.{drawing-computing}
 
 abbrev route : ℕ → ℕ → List Spot → Route
 route a b corners = record { first = a; last = b; corners = corners }
 
-abbrev ends : ℕ → ℕ → Ends
+abbrev ends : ℕ → ℕ → Endpoints
 ends a b = record { first = a; last = b }
 
 abbrev triangle : Drawing

@@ -4,9 +4,9 @@ use mathlib.Core.Bool.{Bool}
 use mathlib.Core.List.{List, [], _∷_, _++_, map}
 use lib.ListN.{length, getD}
 use Rattle.lists.specs.Select.{tabulate, count, indexOf}
-use Rattle.drawing.specs.Spots.{Spot, origin}
-use Rattle.drawing.specs.Lines.{Meetings}
-use Rattle.drawing.specs.Crossing.{linesCross}
+use Rattle.geometry.specs.Spots.{Spot, origin}
+use Rattle.geometry.specs.Lines.{Meetings}
+use Rattle.geometry.specs.Crossing.{linesCross}
 
 -- A cable as it is drawn: its lower-ranked part, its other part, and its corners from the first upward.
 pub record Route : Type 0 where

@@ -4,7 +4,7 @@ use mathlib.Core.List.{List, [], _∷_}
 use lib.ListN.{length}
 use Rattle.lists.specs.Select.{tabulate}
 use Rattle.drawing.specs.declared.spacing.Spacing.{Spacing}
-use Rattle.drawing.specs.Spots.{Spot}
+use Rattle.geometry.specs.Spots.{Spot}
 use Rattle.drawing.specs.Drawing.{Drawing, pointsAt}
 
 -- the grid steps between two columns, or between two rows

@@ -1,8 +1,5 @@
--- Document 01 and requests 2026-01, 2026-02, 2026-05 and 2026-06: what a sheet is. Spots, runs and lines, how they meet; a drawing, the lengths of its lines, its
--- spacing, its words, and the drawing that words show. Assumes nothing.
-pub mod Spots
-pub mod Lines
-pub mod Crossing
+-- Document 01 and requests 2026-01, 2026-02, 2026-05 and 2026-06: what a sheet is: a drawing, the lengths of its lines, its spacing, its words,
+-- and the drawing that words show. Assumes nothing.
 pub mod Drawing
 pub mod Lengths
 pub mod Spacing

@@ -4,23 +4,23 @@ use mathlib.Core.List.{List, [], _∷_, map}
 use lib.ListN.{getD, take, drop}
 use Rattle.lists.specs.Select.{range, sortBy}
 use Rattle.words.specs.Words.{firstOf, secondOf}
-use Rattle.drawing.specs.Spots.{Spot}
+use Rattle.geometry.specs.Spots.{Spot}
 use Rattle.drawing.specs.Drawing.{Route, Drawing}
 
 -- a cable's two parts, the one that its corners start from first
-pub record Ends : Type 0 where
+pub record Endpoints : Type 0 where
   pub first : ℕ
   pub last : ℕ
 
-abbrev pub noEnds : Ends
-noEnds = record { first = 0; last = 0 }
+abbrev pub noEndpoints : Endpoints
+noEndpoints = record { first = 0; last = 0 }
 
 -- 'a part's or a corner's is the one in its word'
 unfoldable pub wordSpot : ℕ → Spot
 wordSpot w = record { x = firstOf w; y = secondOf w }
 
 -- the cables, each with the corners that stand behind its word
-unfoldable pub routesIn : List Ends → List ℕ → List Route
+unfoldable pub routesIn : List Endpoints → List ℕ → List Route
 routesIn [] words = []
 routesIn (e ∷ es) words =
     let k = secondOf (getD words 0 0) in
@@ -28,7 +28,7 @@ routesIn (e ∷ es) words =
     ∷ routesIn es (drop (k + 1) words)
 
 -- the drawing of n parts on a sheet
-unfoldable pub drawingIn : ℕ → List Ends → List ℕ → Drawing
+unfoldable pub drawingIn : ℕ → List Endpoints → List ℕ → Drawing
 drawingIn n ends sheet = record {
   width = firstOf (getD sheet 0 0);
   height = secondOf (getD sheet 0 0);

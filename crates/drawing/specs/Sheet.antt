@@ -10,7 +10,7 @@ use Rattle.prices.specs.declared.Discount.{Discount}
 use Rattle.prices.specs.declared.Discount.the-variants.{NotGiven, Given}
 use Rattle.prices.specs.Quote.{quoteWords}
 use Rattle.drawing.specs.declared.spacing.Spacing.{Spacing}
-use Rattle.drawing.specs.Spots.{Spot}
+use Rattle.geometry.specs.Spots.{Spot}
 use Rattle.drawing.specs.Drawing.{Route, Drawing}
 use Rattle.drawing.specs.Lengths.{cableLengths}
 use Rattle.drawing.specs.Spacing.{spaced}

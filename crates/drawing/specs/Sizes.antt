@@ -6,7 +6,7 @@ use mathlib.Core.List.{List}
 use lib.ListN.{length}
 use Rattle.lists.specs.Select.{count}
 use Rattle.drawing.specs.declared.spacing.Spacing.{Spacing}
-use Rattle.drawing.specs.Lines.{point}
+use Rattle.geometry.specs.Lines.{point}
 use Rattle.drawing.specs.Drawing.{Drawing, spotOf, routeAt, pointsAt}
 use Rattle.drawing.specs.Counts.{isCorner}
 
@@ -25,5 +25,7 @@ pub record Sizes (spacing : Spacing) (n m : ℕ) (grid d : Drawing) (sheet : Lis
   pub height : grid .height ≤ n + 1
   -- 'has at most 2m - 2n + 4 corners'
   pub corners : count isCorner sheet + (n + n) ≤ m + m + 4
-  -- 2026-04, in place of 'at most two cables have more than two': 'no cable has more than two corners'
-  pub bends : (i : ℕ) → i < m → length (routeAt d i .corners) ≤ 2
+
+-- 2026-04, in place of 'at most two cables have more than two': 'no cable has more than two corners', of m cables
+pub record Bends (m : ℕ) (d : Drawing) : Type 0 where
+  pub most : (i : ℕ) → i < m → length (routeAt d i .corners) ≤ 2

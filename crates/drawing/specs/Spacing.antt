@@ -8,7 +8,7 @@ use Rattle.lists.specs.declared.Found.the-variants.{At, Nothing}
 use Rattle.lists.specs.Select.{any, filter}
 use Rattle.words.specs.Limits.{mostField}
 use Rattle.drawing.specs.declared.spacing.Spacing.{Spacing}
-use Rattle.drawing.specs.Spots.{Spot, spotAt}
+use Rattle.geometry.specs.Spots.{Spot, spotAt}
 use Rattle.drawing.specs.Drawing.{Route, Drawing}
 
 -- 'Every x becomes margin + x × column pitch'

@@ -1,11 +1,11 @@
 // The spacing of a sheet for print (request 2026-06).
-use crate::Spot;
+use geometry::Spot;
 use lists::Found;
 ghost use mathlib.Core.Path.{_≡_};
 ghost use Prim.Native.Nat.{_+_, _*_, _≤_};
 ghost use Rattle.lists.specs.declared.Found.the-variants.{Nothing};
 ghost use Rattle.words.specs.Limits.{mostField};
-ghost use Rattle.drawing.specs.Spots.{spotIn};
+ghost use Rattle.geometry.specs.Spots.{spotIn};
 ghost use Rattle.drawing.specs.Spacing as terms;
 ghost use Rattle.drawing.specs.Spacing.{mostPitch, mostMargin, spacingOf, onGrid, columnAt, rowAt, spacedSpot, badPitch};
 

@@ -4,16 +4,15 @@ use mathlib.Core.Path.{_≡_, refl, sym, ap, ap₂, _∙_}
 use mathlib.Core.List.{List, [], _∷_, _++_}
 use lib.ListN.{length}
 use Rattle.lists.specs.declared.Found.{Found}
-use Rattle.station.specs.declared.Verdict.{Verdict}
-use Rattle.station.specs.declared.Verdict.the-variants.{Passed, Refused}
-use Rattle.station.specs.Checks.{Check, orElse, firstRefusal}
-use Rattle.station.proofs.FirstRefusal.{rest-decides, refused-before}
+use Rattle.checks.specs.declared.Verdict.{Verdict}
+use Rattle.checks.specs.declared.Verdict.the-variants.{Passed, Refused}
+use Rattle.checks.specs.Checks.{Check, orElse, firstRefusal, madeOn}
+use Rattle.checks.proofs.FirstRefusal.{rest-decides, refused-before, made-on}
 use Rattle.editor.specs.declared.Proposal.{Proposal}
 use Rattle.editor.specs.Rows.{present, listIn}
-use Rattle.editor.specs.Checks.{madeOn, rowChecks, cableChecks, check15, check16, newChecks, proposeChecks, commitChecks}
+use Rattle.editor.specs.Checks.{rowChecks, cableChecks, check15, check16, newChecks, proposeChecks, commitChecks}
 use Rattle.editor.specs.Operations.{Commit, checksOf, effect, slip, answered, proposed}
 use Rattle.editor.proofs.Rows.{present-is}
-use Rattle.editor.proofs.Verdicts.{made-on}
 
 module _ (row other : List ℕ) (same : listIn row ≡ listIn other) (long : length row ≡ length other) where
   -- some checks say the same of both rows

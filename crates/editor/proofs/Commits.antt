@@ -6,17 +6,17 @@ use borrow.Author.Tests.{leb-false, eqb-true, eq-eqb, ne-eqb, not-false}
 use lib.ListN.{length}
 use lib.Dec.{eqb}
 use Rattle.words.specs.Limits.{mostField}
-use Rattle.station.specs.declared.Verdict.the-variants.{Refused}
-use Rattle.station.specs.Checks.{Check, orElse, firstRefusal, Clear, atWhen, listChecks}
-use Rattle.station.proofs.FirstRefusal.{rest-decides, first-found, refused-before, clear-prefix, clear-rest, clear-each}
-use Rattle.station.proofs.Each.{atWhen-nothing}
+use Rattle.checks.specs.declared.Verdict.the-variants.{Refused}
+use Rattle.checks.specs.Checks.{Check, orElse, firstRefusal, Clear, atWhen, madeOn}
+use Rattle.station.specs.Checks.{listChecks}
+use Rattle.checks.proofs.FirstRefusal.{rest-decides, first-found, refused-before, clear-prefix, clear-rest, clear-each, atWhen-nothing, made-on}
 use Rattle.editor.specs.declared.Proposal.{Proposal}
 use Rattle.editor.specs.Rows.{present, listIn, longer}
-use Rattle.editor.specs.Checks.{madeOn, rowChecks, cableChecks, check15, check16, newChecks, proposeChecks, commitChecks}
+use Rattle.editor.specs.Checks.{rowChecks, cableChecks, check15, check16, newChecks, proposeChecks, commitChecks}
 use Rattle.editor.specs.Operations.{slip}
 use Rattle.editor.proofs.Rows.{head-is}
 use Rattle.editor.proofs.Longer.{few}
-use Rattle.editor.proofs.Verdicts.{made-on, row-verdict, cable-fits}
+use Rattle.editor.proofs.Verdicts.{row-verdict, cable-fits}
 
 -- a slip that passes: it is the list's, its cable has room in its word and in the row, and the longer list passes
 pub record Fit (p : Proposal) (row : List ℕ) : Type 0 where

@@ -20,9 +20,11 @@ use Rattle.lists.proofs.Tests.{oneIf-le}
 use Rattle.words.specs.Words.{kindOf, spareOf, firstOf, secondOf, partsOf, cablesOf, listHead, cableWord}
 use Rattle.words.specs.Limits.{leastParts, mostParts, mostDegree, mostField}
 use Rattle.station.specs.Station.{cableOf, stationOf, joins, degree}
-use Rattle.station.specs.Checks.{firstRefusal, Clear, atWhen, check1, kindAt, misplaced, check2, check3, check4, outside, check5, check6, sameParts, repeated, check7, check8, listChecks}
+use Rattle.checks.specs.Checks.{firstRefusal, Clear, atWhen}
+use Rattle.station.specs.Checks.{check1, kindAt, misplaced, check2, check3, check4, outside, check5, check6, sameParts, repeated, check7, check8, listChecks}
 use Rattle.station.specs.Code.{upTo}
-use Rattle.station.proofs.FirstRefusal.{clear-upTo, clear-each, clear-more}
+use Rattle.station.proofs.UpTo.{clear-upTo}
+use Rattle.checks.proofs.FirstRefusal.{clear-each, clear-more}
 use Rattle.station.proofs.Each.{two-words, placed, words-due, parts-between, different, unrepeated, degree-most}
 use Rattle.station.proofs.Tests.{misplaced-head, misplaced-spare, length-right, parts-right}
 use Rattle.station.proofs.Cables.{parts-are, cables-count}

@@ -9,12 +9,13 @@ use lib.ListN.{length, getD}
 use Rattle.lists.specs.Select.{upFrom}
 use Rattle.lists.proofs.Select.{upFrom-e}
 use Rattle.words.specs.Words.{partsOf}
-use Rattle.station.specs.declared.Verdict.{Verdict}
-use Rattle.station.specs.declared.Verdict.the-variants.{Passed, Refused}
+use Rattle.checks.specs.declared.Verdict.{Verdict}
+use Rattle.checks.specs.declared.Verdict.the-variants.{Passed, Refused}
 use Rattle.station.specs.Station.{stationOf}
-use Rattle.station.specs.Checks.{Check, firstRefusal, Clear, listChecks}
+use Rattle.checks.specs.Checks.{Check, firstRefusal, Clear}
+use Rattle.station.specs.Checks.{listChecks}
 use Rattle.station.proofs.Computing.{station-computing}
-use Rattle.station.proofs.FirstRefusal.{rest-decides, refused-before, refused-number}
+use Rattle.checks.proofs.FirstRefusal.{rest-decides, refused-before, refused-number}
 use Rattle.station.proofs.Cables.{parts-are, cables-count}
 use Rattle.station.proofs.Passed.{wired, cables-few}
 use Rattle.editor.specs.declared.Proposal.{Proposal}

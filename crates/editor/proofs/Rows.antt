@@ -7,8 +7,9 @@ use mathlib.Core.List.{List}
 use lib.ListN.{length, getD, take, length-take}
 use lib.Seq.{getD-take, length-take-le, take-all}
 use Rattle.words.specs.Words.{cablesOf}
-use Rattle.station.specs.Checks.{Clear, listChecks}
-use Rattle.station.proofs.FirstRefusal.{clear-upTo}
+use Rattle.checks.specs.Checks.{Clear}
+use Rattle.station.specs.Checks.{listChecks}
+use Rattle.station.proofs.UpTo.{clear-upTo}
 use Rattle.station.proofs.Each.{words-due}
 use Rattle.editor.specs.Rows.{present, listIn}
 

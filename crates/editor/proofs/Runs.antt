@@ -6,10 +6,11 @@ use mathlib.Core.List.{List, [], _∷_, _++_, map}
 use lib.ListN.{length, getD, set, take, drop, length-set}
 use lib.Seq.{take-set-lt, take-suc-set, set-append-left, getD-set-same, drop-set-lt, length-take-le}
 use Rattle.words.specs.Words.{cablesOf, cableWord}
-use Rattle.station.specs.declared.Verdict.{Verdict}
-use Rattle.station.specs.declared.Verdict.the-variants.{Passed, Refused}
+use Rattle.checks.specs.declared.Verdict.{Verdict}
+use Rattle.checks.specs.declared.Verdict.the-variants.{Passed, Refused}
 use Rattle.station.specs.Station.{cableOf, stationOf}
-use Rattle.station.specs.Checks.{Clear, firstRefusal, listChecks}
+use Rattle.checks.specs.Checks.{Clear, firstRefusal}
+use Rattle.station.specs.Checks.{listChecks}
 use Rattle.editor.specs.declared.Proposal.{Proposal}
 use Rattle.editor.specs.Rows.{present, listIn, raisedBy, followedBy, longer}
 use Rattle.editor.specs.Checks.{commitChecks}

@@ -2,7 +2,7 @@
 use Prim.Native.Nat.{ℕ}
 use mathlib.Core.Path.{_≡_, refl}
 use mathlib.Core.List.{List, [], _∷_}
-use Rattle.station.specs.declared.Verdict.the-variants.{Passed, Refused}
+use Rattle.checks.specs.declared.Verdict.the-variants.{Passed, Refused}
 use Rattle.editor.specs.declared.Proposal.{Proposal}
 use Rattle.editor.specs.declared.Proposed.the-variants as answer
 use Rattle.editor.specs.Operations.{Operation, Propose, Commit, effect, proposed}

@@ -2,7 +2,7 @@
 use Prim.Native.Nat.{ℕ, _+_, _-_, _<_, _≤_}
 use native.Mathlib.Omega.{arith}
 use native.Mathlib.Decide.{decLt}
-use mathlib.Core.Path.{_≡_, refl, sym, ap, _∙_}
+use mathlib.Core.Path.{_≡_, refl, sym, _∙_}
 use mathlib.Core.Bool.{Bool, true, false, _||_, or-true}
 use mathlib.Core.List.{List, [], _∷_, List·Memᴰ, List·Memᴰ·head, List·Memᴰ·tail}
 use borrow.Author.Tests.{ltb-false, lt-ltb, le-ltb, le-leb, lt-leb, eq-eqb, ne-eqb}
@@ -13,22 +13,16 @@ use Rattle.lists.specs.Select.{filter}
 use Rattle.lists.proofs.Bools.{or-fails}
 use Rattle.words.specs.Words.{partsOf}
 use Rattle.words.specs.Limits.{mostField}
-use Rattle.station.specs.declared.Verdict.the-variants.{Passed, Refused}
-use Rattle.station.specs.Checks.{Check, orElse, firstRefusal, Clear, atWhen, check5, check6, check7, check8, outside, listChecks}
+use Rattle.checks.specs.declared.Verdict.the-variants.{Passed, Refused}
+use Rattle.checks.specs.Checks.{orElse, firstRefusal, Clear, atWhen, madeOn}
+use Rattle.station.specs.Checks.{check5, check6, check7, check8, outside, listChecks}
 use Rattle.station.specs.Code.{upTo}
-use Rattle.station.proofs.FirstRefusal.{rest-decides, first-found, refused-before, refused-number, clear-rest, clear-more, clear-each}
-use Rattle.station.proofs.Each.{atWhen-nothing}
+use Rattle.checks.proofs.FirstRefusal.{rest-decides, first-found, refused-before, refused-number, clear-rest, clear-more, clear-each, atWhen-nothing, made-on}
 use Rattle.editor.specs.Rows.{present, listIn, longer}
 use Rattle.editor.specs.Code.{joinedIn}
-use Rattle.editor.specs.Checks.{madeOn, rowChecks, tooLarge, cableChecks, check16, newChecks}
+use Rattle.editor.specs.Checks.{rowChecks, beyondField, cableChecks, check16, newChecks}
 use Rattle.editor.proofs.Tests.{first-is, second-is}
 use Rattle.editor.proofs.Longer.{due, between, form-clear, five-last, six-last, seven-last}
-
--- checks made on another list are that list's
-pub made-on : (other : List ℕ → List ℕ) (checks : List Check) (row : List ℕ) → firstRefusal (madeOn other checks) row ≡ firstRefusal checks (other row)
-unfolding madeOn firstRefusal
-made-on other [] row = refl
-made-on other (c ∷ cs) row = ap (orElse (c .number) (c .finds (other row))) (made-on other cs row)
 
 pub row-verdict : (row : List ℕ) → firstRefusal rowChecks row ≡ firstRefusal listChecks (listIn row)
 unfolding rowChecks
@@ -37,12 +31,12 @@ row-verdict row = made-on listIn listChecks row
 module _ (list : List ℕ) (C : Clear listChecks list) (one other : ℕ) where
   -- a part number too large for its field
   too-large : (ltb mostField one || ltb mostField other) ≡ true → firstRefusal (cableChecks one other) list ≡ Refused 5 (length list)
-  unfolding cableChecks firstRefusal orElse tooLarge atWhen present
+  unfolding cableChecks firstRefusal orElse beyondField atWhen present
   too-large e = rw (e, due list C)
 
   -- both have room: the longer list decides
   list-decides : one ≤ mostField → other ≤ mostField → firstRefusal (cableChecks one other) list ≡ firstRefusal listChecks (longer one other list)
-  unfolding cableChecks firstRefusal orElse tooLarge atWhen
+  unfolding cableChecks firstRefusal orElse beyondField atWhen
   list-decides a b = rw (le-ltb mostField one a, le-ltb mostField other b) (made-on (longer one other) listChecks list)
 
   -- of the longer list only these can apply
@@ -127,12 +121,12 @@ module _ (list : List ℕ) (C : Clear listChecks list) (one other : ℕ) where
 
 -- where they find nothing: both numbers fit their fields, and the longer list passes
 pub cable-fits : (one other : ℕ) (list : List ℕ) → Clear (cableChecks one other) list → (one ≤ mostField) × (other ≤ mostField) × Clear listChecks (longer one other list)
-unfolding cableChecks tooLarge
+unfolding cableChecks beyondField
 cable-fits one other list D =
     let small = or-fails (ltb mostField one) (ltb mostField other) (atWhen-nothing _ _ (clear-each list (cableChecks one other) D (List·Memᴰ·head refl))) in (
       ltb-false mostField one (small .0),
       ltb-false mostField other (small .1),
-      sym (made-on (longer one other) listChecks list) ∙ clear-rest list (record { number = 5; finds = tooLarge one other } ∷ []) (madeOn (longer one other) listChecks) D,
+      sym (made-on (longer one other) listChecks list) ∙ clear-rest list (record { number = 5; finds = beyondField one other } ∷ []) (madeOn (longer one other) listChecks) D,
     )
 
 -- ---- the new cable's checks on a row whose list passes

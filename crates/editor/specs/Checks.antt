@@ -1,30 +1,27 @@
 -- Request 2026-07: what is tested when a cable is tried, and when it is laid. Assumes nothing.
 use Prim.Native.Nat.{ℕ, _+_}
 use mathlib.Core.Bool.{not, _||_}
-use mathlib.Core.List.{List, [], _∷_, _++_, map}
+use mathlib.Core.List.{List, [], _∷_, _++_}
 use lib.ListN.{length}
 use lib.Dec.{eqb, ltb, leb}
 use Rattle.lists.specs.declared.Found.{Found}
 use Rattle.words.specs.Limits.{mostField}
-use Rattle.station.specs.Checks.{Check, atWhen, listChecks}
+use Rattle.checks.specs.Checks.{Check, atWhen, madeOn}
+use Rattle.station.specs.Checks.{listChecks}
 use Rattle.editor.specs.declared.Proposal.{Proposal}
 use Rattle.editor.specs.Rows.{present, listIn, longer}
-
--- checks of a list, made on another that this one gives
-unfoldable pub madeOn : (List ℕ → List ℕ) → List Check → List Check
-madeOn other checks = map (λ (c : Check). record { number = c .number; finds = λ list. c .finds (other list) }) checks
 
 -- 'Each call first makes checks 1 to 8 on it'
 unfoldable pub rowChecks : List Check
 rowChecks = madeOn listIn listChecks
 
 -- 'a part number too large for its field gets 5, place m + 2'
-unfoldable pub tooLarge : ℕ → ℕ → List ℕ → Found
-tooLarge one other list = atWhen (ltb mostField one || ltb mostField other) (present list + 2)
+unfoldable pub beyondField : ℕ → ℕ → List ℕ → Found
+beyondField one other list = atWhen (ltb mostField one || ltb mostField other) (present list + 2)
 
 -- 'the refusal .. that the longer list would get'; that it is 'among 5 to 8' is a law (`among-5-to-8` in proofs/Verdicts)
 unfoldable pub cableChecks : ℕ → ℕ → List Check
-cableChecks one other = record { number = 5; finds = tooLarge one other } ∷ madeOn (longer one other) listChecks
+cableChecks one other = record { number = 5; finds = beyondField one other } ∷ madeOn (longer one other) listChecks
 
 -- 15: 'a slip whose count isn't the present one, place the present count'
 unfoldable pub check15 : ℕ → List ℕ → Found

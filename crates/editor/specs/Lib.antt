@@ -3,5 +3,5 @@ pub mod Rows
 pub mod Checks
 pub mod Operations
 pub mod Runs
--- What only the contracts of code cite
+-- What only laws and the contracts of code cite
 pub mod Code

@@ -3,9 +3,9 @@ use Prim.Native.Nat.{ℕ, _+_}
 use mathlib.Core.List.{List}
 use lib.ListN.{getD, set}
 use Rattle.words.specs.Words.{cableWord}
-use Rattle.station.specs.declared.Verdict.{Verdict}
-use Rattle.station.specs.declared.Verdict.the-variants.{Passed, Refused}
-use Rattle.station.specs.Checks.{Check, firstRefusal}
+use Rattle.checks.specs.declared.Verdict.{Verdict}
+use Rattle.checks.specs.declared.Verdict.the-variants.{Passed, Refused}
+use Rattle.checks.specs.Checks.{Check, firstRefusal}
 use Rattle.editor.specs.declared.Proposal.{Proposal}
 use Rattle.editor.specs.declared.Proposed.{Proposed}
 use Rattle.editor.specs.declared.Proposed.the-variants as answer

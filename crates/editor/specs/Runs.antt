@@ -4,9 +4,10 @@ use mathlib.Core.Path.{_≡_}
 use mathlib.Core.List.{List, [], _∷_, _++_}
 use lib.ListN.{length, drop}
 use Rattle.words.specs.Words.{cableWord}
-use Rattle.station.specs.declared.Verdict.{Verdict}
-use Rattle.station.specs.declared.Verdict.the-variants.{Passed, Refused}
-use Rattle.station.specs.Checks.{Clear, listChecks}
+use Rattle.checks.specs.declared.Verdict.{Verdict}
+use Rattle.checks.specs.declared.Verdict.the-variants.{Passed, Refused}
+use Rattle.checks.specs.Checks.{Clear}
+use Rattle.station.specs.Checks.{listChecks}
 use Rattle.editor.specs.Rows.{listIn, followedBy}
 use Rattle.editor.specs.Operations.{Operation, Propose, Commit, effect}
 

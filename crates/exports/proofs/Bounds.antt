@@ -14,10 +14,10 @@ use Rattle.lists.specs.Select.{upFrom}
 use Rattle.lists.proofs.Select.{upFrom-e}
 use Rattle.prices.specs.Discounts.{check12}
 use Rattle.station.specs.Station.{stationOf}
-use Rattle.station.specs.declared.Verdict.{Verdict}
-use Rattle.station.specs.declared.Verdict.the-variants.{Passed, Refused}
-use Rattle.station.specs.Checks.{Check, firstRefusal, Clear}
-use Rattle.station.proofs.FirstRefusal.{refused-number}
+use Rattle.checks.specs.declared.Verdict.{Verdict}
+use Rattle.checks.specs.declared.Verdict.the-variants.{Passed, Refused}
+use Rattle.checks.specs.Checks.{Check, firstRefusal, Clear}
+use Rattle.checks.proofs.FirstRefusal.{refused-number}
 use Rattle.order.specs.Checks.{allChecks}
 use Rattle.order.proofs.Computing.{order-computing}
 use Rattle.drawing.specs.Drawing.{Drawing, crossings}
@@ -25,7 +25,8 @@ use Rattle.drawing.specs.Spacing.{spaced, check13, check14}
 use Rattle.hookup.specs.declared.Options.{Options}
 use Rattle.hookup.specs.Checks.{givenChecks, callChecks}
 use Rattle.hookup.specs.Drawing.{drawing}
-use Rattle.hookup.specs.Outcome.{Outcome, drawn, sentBack, fitted, orDrawn, outcome}
+use Rattle.hookup.specs.Outcome.{Outcome, sheetIn, outcome}
+use Rattle.checks.specs.Outcome.{fitted, ifPassed, sentBack, written}
 use Rattle.hookup.proofs.CallChecks.{refused-12, refused-13, list-decides, given-refused, refused-14, call-clear, list-clear}
 use Rattle.hookup.proofs.Drawn.{mostWordsFor}
 use Rattle.hookup.proofs.Demand3.{sheetOf, words-most}
@@ -54,7 +55,7 @@ pub record Refusal (options : Options) (list : List ℕ) (room check place : ℕ
 
 -- a sheet fits the output, and `mostWordsFor`
 abbrev Bounded : Options → List ℕ → ℕ → Outcome → Type 0
-Bounded options list room (drawn words x) = (length words ≤ room) × (length words ≤ mostWordsFor (options .discount))
+Bounded options list room (written words x) = (length words ≤ room) × (length words ≤ mostWordsFor (options .discount))
 Bounded options list room (sentBack check place) = Refusal options list room check place
 
 module _ (options : Options) (list : List ℕ) (room : ℕ) where
@@ -112,8 +113,8 @@ module _ (options : Options) (list : List ℕ) (room : ℕ) where
       of-discount Nothing f = of-spacing f (check13 (options .spacing)) refl
 
   -- the sheet of a list that passes them
-  fitted-bounded : Clear (callChecks options) list → Bounded options list room (fitted options (drawing (stationOf list)) room)
-  unfolding fitted
+  fitted-bounded : Clear (callChecks options) list → Bounded options list room (sheetIn options (drawing (stationOf list)) room)
+  unfolding sheetIn fitted
   fitted-bounded pass = go (ltb room (length words)) refl
     where
       words : List ℕ
@@ -122,7 +123,7 @@ module _ (options : Options) (list : List ℕ) (room : ℕ) where
       most : length words ≤ mostWordsFor (options .discount)
       most = words-most options list pass
 
-      go : (b : Bool) → ltb room (length words) ≡ b → Bounded options list room (cond b (sentBack 11 (length words)) (drawn words (crossings (drawing (stationOf list)))))
+      go : (b : Bool) → ltb room (length words) ≡ b → Bounded options list room (cond b (sentBack 11 (length words)) (written words (crossings (drawing (stationOf list)))))
       go true t =
           record {
             least = omega arith;
@@ -135,10 +136,10 @@ module _ (options : Options) (list : List ℕ) (room : ℕ) where
       go false t = (ltb-false room (length words) t, most)
 
   outcome-bounded : Bounded options list room (outcome options list room)
-  unfolding outcome orDrawn
+  unfolding outcome ifPassed
   outcome-bounded = go (firstRefusal (callChecks options) list) refl
     where
-      go : (v : Verdict) → firstRefusal (callChecks options) list ≡ v → Bounded options list room (orDrawn v (fitted options (drawing (stationOf list)) room))
+      go : (v : Verdict) → firstRefusal (callChecks options) list ≡ v → Bounded options list room (ifPassed v (sheetIn options (drawing (stationOf list)) room))
       go Passed e = fitted-bounded e
       go (Refused check place) e = refused-bounded e
 
@@ -147,5 +148,5 @@ module _ (options : Options) (list : List ℕ) (room : ℕ) where
   pub refusal-bounded : {check place : ℕ} → outcome options list room ≡ sentBack check place → Refusal options list room check place
   refusal-bounded e = subst (Bounded options list room) e outcome-bounded
 
-  pub sheet-words : {words : List ℕ} {x : ℕ} → outcome options list room ≡ drawn words x → (length words ≤ room) × (length words ≤ mostWordsFor (options .discount))
+  pub sheet-words : {words : List ℕ} {x : ℕ} → outcome options list room ≡ written words x → (length words ≤ room) × (length words ≤ mostWordsFor (options .discount))
   sheet-words e = subst (Bounded options list room) e outcome-bounded

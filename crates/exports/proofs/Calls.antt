@@ -9,9 +9,9 @@ use Rattle.prices.specs.declared.Discount.{Discount}
 use Rattle.prices.specs.Discounts.{mostDiscount, check12}
 use Rattle.prices.proofs.Discounts.{within, not-given}
 use Rattle.station.specs.Station.{stationOf}
-use Rattle.station.specs.Checks.{Clear}
+use Rattle.checks.specs.Checks.{Clear}
 use Rattle.order.specs.Checks.{allChecks}
-use Rattle.order.proofs.Passed.{list-orderable, list-once}
+use Rattle.order.proofs.Passed.{list-orderable}
 use Rattle.drawing.specs.declared.spacing.Spacing.{Spacing}
 use Rattle.drawing.specs.Spacing.{spaced, onGrid, check13, check14}
 use Rattle.drawing.proofs.Spaced.{Spreads, spreads-pass, grid-passes}
@@ -20,7 +20,8 @@ use Rattle.hookup.specs.declared.Answer.{Answer}
 use Rattle.hookup.specs.declared.Answer.the-variants.{Sheet, Refused}
 use Rattle.hookup.specs.Options.{plain, quoted, spacedWith, spacedBy}
 use Rattle.hookup.specs.Drawing.{drawing}
-use Rattle.hookup.specs.Outcome.{Outcome, drawn, sentBack, outcome}
+use Rattle.hookup.specs.Outcome.{Outcome, outcome}
+use Rattle.checks.specs.Outcome.{sentBack, written}
 use Rattle.hookup.proofs.Drawn.{mostWordsFor, grid-fits}
 use Rattle.hookup.specs.Answer.{counts, refusal, replyOf, reply, Drew}
 use Rattle.exports.specs.Call.{mostWords, mostQuotedWords, Lent, lent, answerOf, Numbered, Kept, Told, Called}
@@ -29,7 +30,7 @@ use Rattle.exports.proofs.Bounds.{Refusal, refusal-bounded, sheet-words
 -- Outcomes by their replies
 
 sent-back : (o : Outcome) {c p : ℕ} → refusal c p ≡ reply o → o ≡ sentBack c p
-sent-back (drawn words x) e = let z : _≡_ {A = ℕ} 0 1 = cc in absurd (omega arith)
+sent-back (written words x) e = let z : _≡_ {A = ℕ} 0 1 = cc in absurd (omega arith)
 sent-back (sentBack check place) {c} {p} e =
     let g : check ≡ c = cc in
     let h : place ≡ p = cc in
@@ -38,7 +39,7 @@ sent-back (sentBack check place) {c} {p} e =
 drawn-words :
     (options : Options) (list : List ℕ) (room : ℕ) (o : Outcome) {w k : ℕ} → outcome options list room ≡ o → counts w k ≡ reply o
     → (w ≤ room) × (w ≤ mostWordsFor (options .discount))
-drawn-words options list room (drawn words x) {w} {k} f e =
+drawn-words options list room (written words x) {w} {k} f e =
     let h : w ≡ length words = cc in
     let s = sheet-words options list room f in
     (omega (arith, s .0), omega (arith, s .1))
@@ -106,7 +107,7 @@ grid-never-14 :
     → Called (record { discount = discount; spacing = onGrid }) list before after numbers left result → result ≡ 14 → ⊥
 grid-never-14 {discount} {list} result C e =
     let r = result-14 result C e in
-    let g = sym (grid-fits (stationOf list) (list-orderable list (r .0)) (list-once list (r .0))) ∙ r .1 in
+    let g = sym (grid-fits (stationOf list) (list-orderable list (r .0))) ∙ r .1 in
     let z : _≡_ {A = ℕ} 0 1 = cc in
     absurd (omega arith)
 

@@ -4,8 +4,8 @@ use native.Mathlib.Omega.{arith}
 use mathlib.Core.Path.{_≡_, refl, sym, ap, _∙_}
 use mathlib.Core.Logic.{inl, inr}
 use mathlib.Core.List.{List}
-use Rattle.station.specs.declared.Verdict.{Verdict}
-use Rattle.station.specs.declared.Verdict.the-variants.{Passed, Refused}
+use Rattle.checks.specs.declared.Verdict.{Verdict}
+use Rattle.checks.specs.declared.Verdict.the-variants.{Passed, Refused}
 use Rattle.editor.specs.declared.Proposal.{Proposal}
 use Rattle.editor.specs.declared.Proposed.the-variants as answer
 use Rattle.editor.specs.Operations.{Commit, Effect, effect, slip, proposed}

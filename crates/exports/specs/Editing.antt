@@ -2,8 +2,8 @@
 use Prim.Native.Nat.{ℕ, zero, suc}
 use mathlib.Core.Path.{_≡_}
 use mathlib.Core.List.{List}
-use Rattle.station.specs.declared.Verdict.{Verdict}
-use Rattle.station.specs.declared.Verdict.the-variants.{Passed, Refused}
+use Rattle.checks.specs.declared.Verdict.{Verdict}
+use Rattle.checks.specs.declared.Verdict.the-variants.{Passed, Refused}
 use Rattle.editor.specs.declared.Proposal.{Proposal}
 use Rattle.editor.specs.declared.Proposed.{Proposed}
 use Rattle.editor.specs.declared.Proposed.the-variants as answer

@@ -1,11 +1,11 @@
 // The calls for programs that are not written in Rattle. include/dovranis.h says in words what the contracts here say.
+use drafting::draw;
 use drawing::spacing::Spacing;
 use hookup::Answer;
 use hookup::Options;
-use hookup::draw;
 use words::limits;
 
-pub mod editing;
+pub mod operations;
 
 ghost use mathlib.Core.Path.{_≡_};
 ghost use Rattle.hookup.specs.Options.{plain, quoted, spacedBy};
@@ -62,7 +62,7 @@ fn tell(answer: Answer, words: &mut usize, crossings: &mut usize, place: &mut us
     }
 }
 
-// `hookup::draw` with nothing given.
+// `drafting::draw` with nothing given.
 #[no_mangle]
 pub extern "C" fn dovranis_draw(
     list: &[u32],
@@ -78,7 +78,7 @@ pub extern "C" fn dovranis_draw(
     tell(draw(list, sheet, Options::plain()), words, crossings, place)
 }
 
-// `hookup::draw` with a discount, in hundredths of a percent.
+// `drafting::draw` with a discount, in hundredths of a percent.
 #[no_mangle]
 pub extern "C" fn dovranis_draw_quoted(
     list: &[u32],
@@ -100,7 +100,7 @@ pub extern "C" fn dovranis_draw_quoted(
     )
 }
 
-// `hookup::draw` with a spacing for print.
+// `drafting::draw` with a spacing for print.
 #[no_mangle]
 pub extern "C" fn dovranis_draw_spaced(
     list: &[u32],
@@ -120,7 +120,7 @@ pub extern "C" fn dovranis_draw_spaced(
     tell(draw(list, sheet, options), words, crossings, place)
 }
 
-// `hookup::draw` with a discount and a spacing.
+// `drafting::draw` with a discount and a spacing.
 #[no_mangle]
 pub extern "C" fn dovranis_draw_quoted_spaced(
     list: &[u32],

@@ -8,19 +8,19 @@ use lib.ListN.{length, getD, length-map}
 use Rattle.lists.specs.declared.Found.the-variants.{Nothing}
 use Rattle.lists.proofs.Select.{getD-map}
 use Rattle.station.specs.Station.{Station, stationOf, noCable}
-use Rattle.station.specs.Checks.{Clear}
+use Rattle.checks.specs.Checks.{Clear}
 use Rattle.order.specs.Order.{order}
-use Rattle.order.specs.Ends.{lowerPart, upperPart}
+use Rattle.order.specs.Orientation.{lowerPart, upperPart}
 use Rattle.order.specs.StOrder.{Smallest}
 use Rattle.order.proofs.Bipolar.{Orderable}
 use Rattle.order.proofs.StOrder.{order-ordering, order-smallest}
-use Rattle.order.proofs.Ends.{parts-joined}
+use Rattle.order.proofs.Orientation.{parts-joined}
 use Rattle.order.proofs.Passed.{list-orderable, list-once}
 use Rattle.drawing.specs.Drawing.{Drawing, routeAt, Meets, crossings}
 use Rattle.drawing.specs.Spacing.{rowAt, spaced, check13}
 use Rattle.drawing.specs.Sheet.{quotedWords}
-use Rattle.drawing.specs.Reading.{Ends, noEnds, partsByRow, lengthsIn}
-use Rattle.drawing.specs.Sizes.{Sizes}
+use Rattle.drawing.specs.Reading.{Endpoints, noEndpoints, partsByRow, lengthsIn}
+use Rattle.drawing.specs.Sizes.{Sizes, Bends}
 use Rattle.drawing.specs.Measured.{Measured}
 use Rattle.drawing.proofs.Spaced.{Spreads, passed-13, increases, spaced-one}
 use Rattle.hookup.specs.declared.Options.{Options}
@@ -29,23 +29,23 @@ use Rattle.hookup.specs.Drawing.{drawing}
 use Rattle.hookup.specs.Reading.{endsBy, drawingOf}
 use Rattle.hookup.specs.Demand.{Form, Demand3, rowOf, Ordered, Crossed}
 use Rattle.hookup.proofs.CallChecks.{checked-given, list-clear, spacing-clear, drawing-clear}
-use Rattle.hookup.proofs.Drawn.{endsOf, mostWordsFor, joins, meets-spaced, crossings-there, reads, sizes, measured, quote, all-fit, quoted-most}
+use Rattle.hookup.proofs.Drawn.{endsOf, mostWordsFor, joins, meets-spaced, crossings-there, reads, sizes, bends, measured, quote, all-fit, quoted-most}
 use Rattle.hookup.proofs.PartRows.{parts-by-row, rank-row, bottom-rows}
 
 module _ (st : Station) (H : Orderable st) where
-  ends-at : (i : ℕ) → i < length (st .cables) → getD (endsOf st) i noEnds ≡ endsBy (order st) (getD (st .cables) i noCable)
-  ends-at i h = getD-map (endsBy (order st)) (st .cables) i noCable noEnds h
+  ends-at : (i : ℕ) → i < length (st .cables) → getD (endsOf st) i noEndpoints ≡ endsBy (order st) (getD (st .cables) i noCable)
+  ends-at i h = getD-map (endsBy (order st)) (st .cables) i noCable noEndpoints h
 
   in-ends : (i : ℕ) → i < length (st .cables) → i < length (endsOf st)
   in-ends i h = omega (arith, length-map (st .cables) (endsBy (order st)))
 
   first-at : (i : ℕ) → i < length (st .cables) → routeAt (drawing st) i .first ≡ lowerPart (order st) (getD (st .cables) i noCable)
   unfolding endsBy
-  first-at i h = joins st H .routes i (in-ends i h) .first-is ∙ ap (λ (e : Ends). e .first) (ends-at i h)
+  first-at i h = joins st H .routes i (in-ends i h) .first-is ∙ ap (λ (e : Endpoints). e .first) (ends-at i h)
 
   last-at : (i : ℕ) → i < length (st .cables) → routeAt (drawing st) i .last ≡ upperPart (order st) (getD (st .cables) i noCable)
   unfolding endsBy
-  last-at i h = joins st H .routes i (in-ends i h) .last-is ∙ ap (λ (e : Ends). e .last) (ends-at i h)
+  last-at i h = joins st H .routes i (in-ends i h) .last-is ∙ ap (λ (e : Endpoints). e .last) (ends-at i h)
 
   form : (options : Options) → Form options st (drawing st) (quotedWords (options .spacing) (options .discount) (drawing st))
   form options = record {
@@ -88,7 +88,10 @@ module _ (options : Options) (list : List ℕ) (pass : Clear (callChecks options
         meetings = subst (λ (d : Drawing). Meets d) (sym read-off) (meets-spaced st orderable s (increases s spreads));
         sizes =
             subst (λ (d : Drawing). Sizes s (st .parts) (length (st .cables)) (drawing st) d sheet) (sym read-off)
-            (sizes st orderable s spreads fit (options .discount) (list-once list (list-clear options list (checked-given options list pass))));
+            (sizes st orderable s spreads fit (options .discount));
+        bends =
+            subst (λ (d : Drawing). Bends (length (st .cables)) d) (sym read-off)
+            (bends st orderable s spreads (list-once list (list-clear options list (checked-given options list pass))));
         lengths =
             subst (λ (d : Drawing). Measured s (st .parts) (length (st .cables)) (drawing st) d (lengthsIn (st .parts) (length (st .cables)) sheet)) (sym read-off)
             (measured st orderable s spreads fit (options .discount));

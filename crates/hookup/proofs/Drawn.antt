@@ -18,21 +18,21 @@ use Rattle.lists.proofs.Select.{getD-map, getD-tabulate, length-tabulate}
 use Rattle.station.specs.Station.{Station, noCable}
 use Rattle.order.specs.Order.{order, rankIn}
 use Rattle.order.specs.StOrder.{StOrdering}
-use Rattle.order.specs.Graph.{StGraph, size, Ranked}
-use Rattle.order.specs.Ends.{graphOf}
+use Rattle.order.specs.Graph.{StGraph, size, Ranked, EndsOnce}
+use Rattle.order.specs.Orientation.{graphOf}
 use Rattle.order.proofs.Bipolar.{Orderable}
 use Rattle.order.proofs.StOrder.{order-ordering}
 use Rattle.order.proofs.Ranks.{order-ranked, graph-parts, graph-size, rank-below, part-of-rank, rank-of-part}
-use Rattle.order.proofs.Graphs.{EndsOnce, cables-le}
-use Rattle.order.proofs.Ends.{lower-part, upper-part}
+use Rattle.order.proofs.Graphs.{cables-le}
+use Rattle.order.proofs.Orientation.{lower-part, upper-part}
 use Rattle.drawing.specs.declared.spacing.Spacing.{Spacing}
 use Rattle.drawing.specs.Drawing.{Drawing, spotOf, pointsAt, Meets, crossings, renumbered}
 use Rattle.drawing.specs.Lengths.{lineLength, cableLengths, mostLength}
 use Rattle.drawing.specs.Spacing.{spaced, onGrid, tooLarge, check14}
 use Rattle.drawing.specs.Sheet.{sheetWords, quotedWords}
-use Rattle.drawing.specs.Reading.{Ends, noEnds, lengthsIn, quoteIn}
+use Rattle.drawing.specs.Reading.{Endpoints, noEndpoints, lengthsIn, quoteIn}
 use Rattle.drawing.specs.Counts.{cornerCount}
-use Rattle.drawing.specs.Sizes.{Sizes}
+use Rattle.drawing.specs.Sizes.{Sizes, Bends}
 use Rattle.drawing.specs.Measured.{Measured}
 use Rattle.drawing.proofs.LengthWords.{LengthsFit}
 use Rattle.drawing.proofs.ReadBack.{SpotFits, DrawingFits}
@@ -41,7 +41,7 @@ use Rattle.drawing.proofs.SpacedCrossings.{crossings-spaced}
 use Rattle.drawing.proofs.Fields.{head-decides}
 use Rattle.drawing.proofs.Quoted.{quoted-length, quoted-renumbered, drawing-read, lengths-read, quote-read, quoted-fits, quoted-corners}
 use Rattle.drawing.proofs.Renumbered.{Names, routes-renumbered, points-renumbered, lengths-renumbered, meets-renumbered, crossings-renumbered, length-renumbered, corner-count-renumbered}
-use Rattle.drawing.proofs.Sized.{Joins, joins-fit, named, joins-renumbered, joins-spaced, spaced-renumbered, GridSizes, sizes-renumbered, fields-within, sizes-spaced}
+use Rattle.drawing.proofs.Sized.{Joins, joins-fit, named, joins-renumbered, joins-spaced, spaced-renumbered, bends-renumbered, bends-spaced, GridSizes, sizes-renumbered, fields-within, sizes-spaced}
 use Rattle.layout.specs.Points.{bottomRows, topRows}
 use Rattle.layout.specs.Layout.{layout}
 use Rattle.layout.proofs.Step.{ins, outs}
@@ -52,7 +52,7 @@ use Rattle.hookup.specs.Drawing.{drawingBy, drawing}
 use Rattle.hookup.specs.Reading.{endsBy, readBy}
 
 -- the cables' two parts, by line, as a sheet of the station is read
-abbrev pub endsOf : Station → List Ends
+abbrev pub endsOf : Station → List Endpoints
 endsOf st = map (endsBy (order st)) (st .cables)
 
 -- the words of the longest sheet, without a discount and with one
@@ -117,31 +117,31 @@ module _ (st : Station) where
     -- the ends that a reader takes are those of the layout, under their names
     ends-at :
         (i : ℕ) → i < length (st .cables)
-        → getD (endsOf st) i noEnds ≡ getD (map (named (order st)) (tabulate (size (graphOf st)) (laid.endsOf (graphOf st)))) i noEnds
+        → getD (endsOf st) i noEndpoints ≡ getD (map (named (order st)) (tabulate (size (graphOf st)) (laid.endsOf (graphOf st)))) i noEndpoints
     unfolding endsBy
     ends-at i h =
         let g : i < size (graphOf st) = omega (arith, graph-size st) in
-        let l : List Ends = tabulate (size (graphOf st)) (laid.endsOf (graphOf st)) in
-        let e : getD (endsOf st) i noEnds ≡ endsBy (order st) (getD (st .cables) i noCable) = getD-map (endsBy (order st)) (st .cables) i noCable noEnds h in
-        let f : getD (map (named (order st)) l) i noEnds ≡ named (order st) (getD l i noEnds) = getD-map (named (order st)) l i noEnds noEnds (omega (arith, length-tabulate (size (graphOf st)) (laid.endsOf (graphOf st)))) in
-        let q : getD l i noEnds ≡ laid.endsOf (graphOf st) i = getD-tabulate (size (graphOf st)) (laid.endsOf (graphOf st)) i noEnds g in
+        let l : List Endpoints = tabulate (size (graphOf st)) (laid.endsOf (graphOf st)) in
+        let e : getD (endsOf st) i noEndpoints ≡ endsBy (order st) (getD (st .cables) i noCable) = getD-map (endsBy (order st)) (st .cables) i noCable noEndpoints h in
+        let f : getD (map (named (order st)) l) i noEndpoints ≡ named (order st) (getD l i noEndpoints) = getD-map (named (order st)) l i noEndpoints noEndpoints (omega (arith, length-tabulate (size (graphOf st)) (laid.endsOf (graphOf st)))) in
+        let q : getD l i noEndpoints ≡ laid.endsOf (graphOf st) i = getD-tabulate (size (graphOf st)) (laid.endsOf (graphOf st)) i noEndpoints g in
         e ∙ ends-path (sym (lower-part st H i h)) (sym (upper-part st H i h)) ∙ sym (f ∙ ap (named (order st)) q)
       where
-        ends-path : {a b c d : ℕ} → a ≡ c → b ≡ d → _≡_ {A = Ends} (record { first = a; last = b }) (record { first = c; last = d })
+        ends-path : {a b c d : ℕ} → a ≡ c → b ≡ d → _≡_ {A = Endpoints} (record { first = a; last = b }) (record { first = c; last = d })
         ends-path e f = λ i. record { first = e i; last = f i }
 
     ends-are : endsOf st ≡ map (named (order st)) (tabulate (size (graphOf st)) (laid.endsOf (graphOf st)))
     ends-are =
-        let l : List Ends = tabulate (size (graphOf st)) (laid.endsOf (graphOf st)) in
+        let l : List Endpoints = tabulate (size (graphOf st)) (laid.endsOf (graphOf st)) in
         let e : length (endsOf st) ≡ length (st .cables) = length-map (st .cables) (endsBy (order st)) in
-        ext-getD noEnds (endsOf st) (map (named (order st)) l)
+        ext-getD noEndpoints (endsOf st) (map (named (order st)) l)
         (e ∙ sym (graph-size st) ∙ sym (length-tabulate (size (graphOf st)) (laid.endsOf (graphOf st))) ∙ sym (length-map l (named (order st))))
         (λ i h. ends-at i (omega (arith, e)))
 
     pub joins : Joins (st .parts) (endsOf st) (drawing st)
     joins =
         subst (λ (d : Drawing). Joins (st .parts) (endsOf st) d) (sym is-renumbered)
-        (subst (λ (l : List Ends). Joins (st .parts) l (renumbered (order st) (layout (graphOf st)))) (sym ends-are)
+        (subst (λ (l : List Endpoints). Joins (st .parts) l (renumbered (order st) (layout (graphOf st)))) (sym ends-are)
         (subst (λ (n : ℕ). Joins n (map (named (order st)) (tabulate (size (graphOf st)) (laid.endsOf (graphOf st)))) (renumbered (order st) (layout (graphOf st)))) (graph-parts st)
         (joins-renumbered (order st) (layout (graphOf st)) (graphOf st .parts) _ (laid.joins (graphOf st) R two most))))
 
@@ -169,13 +169,20 @@ module _ (st : Station) where
     pub all-words : (s : Spacing) → length (sheetWords s (drawing st)) + st .parts ≡ 4 * length (st .cables) + 4 + bottomRows (graphOf st) + topRows (graphOf st)
     all-words s = omega (arith, length-is s, laid.words-count (graphOf st) R two s, graph-parts st, graph-size st)
 
-    -- where the two lowest ranks, and the two highest, are joined once
-    pub grid-sizes : EndsOnce (graphOf st) → GridSizes (st .parts) (length (st .cables)) (drawing st)
-    grid-sizes once =
+    pub grid-sizes : GridSizes (st .parts) (length (st .cables)) (drawing st)
+    grid-sizes =
         let G : StGraph = graphOf st in
         subst (λ (d : Drawing). GridSizes (st .parts) (length (st .cables)) d) (sym is-renumbered)
         (sizes-renumbered (order st) (layout G) names (laid.meets G R) (st .parts) (length (st .cables)) (laid.parts-count G ∙ graph-parts st) (laid.routes-count G ∙ graph-size st)
-        (subst₂ (λ (n m : ℕ). GridSizes n m (layout G)) (graph-parts st) (graph-size st) (laid.sizes G R two most (omega (arith, graph-parts st, H .wired .least)) once)))
+        (subst₂ (λ (n m : ℕ). GridSizes n m (layout G)) (graph-parts st) (graph-size st) (laid.sizes G R two most)))
+
+    -- where the two lowest ranks, and the two highest, are joined once
+    grid-bends : EndsOnce (graphOf st) → Bends (length (st .cables)) (drawing st)
+    grid-bends once =
+        let G : StGraph = graphOf st in
+        subst (λ (d : Drawing). Bends (length (st .cables)) d) (sym is-renumbered)
+        (bends-renumbered (order st) (layout G) (length (st .cables)) (laid.routes-count G ∙ graph-size st)
+        (subst (λ (m : ℕ). Bends m (layout G)) (graph-size st) (laid.bends G R two most (omega (arith, graph-parts st, H .wired .least)) once)))
 
     -- no line is longer
     length-most : (i : ℕ) → i < length (drawing st .routes) → lineLength (pointsAt (drawing st) i) ≤ mostLength (st .parts)
@@ -204,11 +211,14 @@ module _ (st : Station) where
       pub crossings-there : crossings (spaced s (drawing st)) ≡ crossings (drawing st)
       crossings-there = crossings-spaced s grows (drawing st) meets
 
+      pub bends : EndsOnce (graphOf st) → Bends (length (st .cables)) (spaced s (drawing st))
+      bends once = bends-spaced s (drawing st) (length (st .cables)) lines (grid-bends once)
+
       -- 14 looks at the head alone
       pub head-alone :
-          EndsOnce (graphOf st) → let d = spaced s (drawing st) in check14 d ≡ cond (tooLarge (max (d .width) (d .height))) (At (max (d .width) (d .height))) Nothing
-      head-alone once =
-          head-decides (spaced s (drawing st)) (fields-within s grows (drawing st) meets (st .parts) (length (st .cables)) (joins .parts-count) lines (grid-sizes once))
+          let d = spaced s (drawing st) in check14 d ≡ cond (tooLarge (max (d .width) (d .height))) (At (max (d .width) (d .height))) Nothing
+      head-alone =
+          head-decides (spaced s (drawing st)) (fields-within s grows (drawing st) meets (st .parts) (length (st .cables)) (joins .parts-count) lines grid-sizes)
 
       -- What the words show, whatever discount is given, where the numbers fit
 
@@ -226,9 +236,9 @@ module _ (st : Station) where
         unfolding readBy
         reads = drawing-read s (st .parts) (endsOf st) (drawing st) fits P meets lengths-fit small few-cables length-most discount
 
-        pub sizes : EndsOnce (graphOf st) → Sizes s (st .parts) (length (st .cables)) (drawing st) (spaced s (drawing st)) (quotedWords s discount (drawing st))
-        sizes once =
-            sizes-spaced s grows (drawing st) meets (st .parts) (length (st .cables)) (joins .parts-count) lines (grid-sizes once) _
+        pub sizes : Sizes s (st .parts) (length (st .cables)) (drawing st) (spaced s (drawing st)) (quotedWords s discount (drawing st))
+        sizes =
+            sizes-spaced s grows (drawing st) meets (st .parts) (length (st .cables)) (joins .parts-count) lines grid-sizes _
             (quoted-corners s (st .parts) (endsOf st) (drawing st) fits P meets lengths-fit small few-cables length-most discount)
 
         -- the lengths on the sheet
@@ -254,14 +264,14 @@ module _ (st : Station) where
 
     -- On the grid every number fits
 
-    pub grid-fits : EndsOnce (graphOf st) → check14 (spaced onGrid (drawing st)) ≡ Nothing
-    grid-fits once =
+    pub grid-fits : check14 (spaced onGrid (drawing st)) ≡ Nothing
+    grid-fits =
         let d : Drawing = spaced onGrid (drawing st) in
-        let S = grid-sizes once in
+        let S = grid-sizes in
         let w : d .width ≡ drawing st .width = ap (λ (z : Drawing). z .width) (unspaced (drawing st)) in
         let h : d .height ≡ drawing st .height = ap (λ (z : Drawing). z .height) (unspaced (drawing st)) in
         let b : max (d .width) (d .height) ≤ mostField = omega (arith, S .width, S .height, small, few-cables, lines) in
-        head-alone onGrid (passed-13 onGrid grid-passes) once ∙ rw (le-ltb mostField (max (d .width) (d .height)) b) refl
+        head-alone onGrid (passed-13 onGrid grid-passes) ∙ rw (le-ltb mostField (max (d .width) (d .height)) b) refl
 
     -- four cables at a part at most
     words-most : (s : Spacing) → length (sheetWords s (drawing st)) ≤ mostWords

@@ -2,22 +2,19 @@
 -- cost where a discount is given. Assumes nothing.
 use Prim.Native.Nat.{ℕ}
 use mathlib.Core.Path.{_≡_, refl, sym, ap, ap₂, _∙_}
-use mathlib.Core.Bool.{cond}
 use mathlib.Core.List.{List, [], _∷_, _++_}
-use lib.ListN.{length}
-use lib.Dec.{ltb}
 use Rattle.lists.specs.declared.Found.{Found}
 use Rattle.lists.specs.declared.Found.the-variants.{At, Nothing}
 use Rattle.prices.specs.declared.Discount.{Discount}
 use Rattle.prices.specs.Discounts.{check12}
 use Rattle.prices.proofs.Discounts.{not-given}
 use Rattle.station.specs.Station.{stationOf}
-use Rattle.station.specs.declared.Verdict.{Verdict}
-use Rattle.station.specs.declared.Verdict.the-variants.{Passed, Refused}
-use Rattle.station.specs.Checks.{Check, firstRefusal}
-use Rattle.station.proofs.FirstRefusal.{rest-decides, first-found, clear-more}
+use Rattle.checks.specs.declared.Verdict.{Verdict}
+use Rattle.checks.specs.declared.Verdict.the-variants.{Passed, Refused}
+use Rattle.checks.specs.Checks.{Check, firstRefusal}
+use Rattle.checks.proofs.FirstRefusal.{rest-decides, first-found, clear-more, no-check}
 use Rattle.order.specs.Checks.{allChecks}
-use Rattle.order.proofs.Passed.{list-orderable, list-once}
+use Rattle.order.proofs.Passed.{list-orderable}
 use Rattle.drawing.specs.Drawing.{Drawing, crossings}
 use Rattle.drawing.specs.Spacing.{onGrid}
 use Rattle.drawing.specs.Sheet.{lengthsSection, quoteSection, drawingWords}
@@ -27,8 +24,9 @@ use Rattle.hookup.specs.declared.Options.{Options}
 use Rattle.hookup.specs.Options.{plain}
 use Rattle.hookup.specs.Checks.{callChecks}
 use Rattle.hookup.specs.Drawing.{drawing}
-use Rattle.hookup.specs.Outcome.{Outcome, drawn, sentBack, fitted, orDrawn, outcome}
-use Rattle.hookup.proofs.CallChecks.{no-check, refused-12, list-decides, given-refused, call-clear}
+use Rattle.hookup.specs.Outcome.{Outcome, sheetIn, outcome}
+use Rattle.checks.specs.Outcome.{fitted, ifPassed}
+use Rattle.hookup.proofs.CallChecks.{refused-12, list-decides, given-refused, call-clear}
 use Rattle.hookup.proofs.Drawn.{grid-fits}
 
 -- what is given where there is no spacing
@@ -44,8 +42,7 @@ abbrev knownWords : Discount → Drawing → List ℕ
 knownWords discount d = (drawingWords d ++ lengthsSection d) ++ quoteSection discount d
 
 abbrev knownSheet : Discount → Drawing → ℕ → Outcome
-knownSheet discount d room =
-    cond (ltb room (length (knownWords discount d))) (sentBack 11 (length (knownWords discount d))) (drawn (knownWords discount d) (crossings d))
+knownSheet discount d room = fitted (knownWords discount d) (crossings d) room
 
 module _ (discount : Discount) (list : List ℕ) where
   list-known : check12 discount ≡ Nothing → firstRefusal (callChecks (unspacedWith discount)) list ≡ firstRefusal allChecks list
@@ -53,7 +50,7 @@ module _ (discount : Discount) (list : List ℕ) where
     where
       go : (v : Verdict) → firstRefusal allChecks list ≡ v → firstRefusal (callChecks (unspacedWith discount)) list ≡ firstRefusal allChecks list
       go Passed e =
-          call-clear (unspacedWith discount) list (list-decides (unspacedWith discount) list none grid-passes ∙ e) (grid-fits (stationOf list) (list-orderable list e) (list-once list e))
+          call-clear (unspacedWith discount) list (list-decides (unspacedWith discount) list none grid-passes ∙ e) (grid-fits (stationOf list) (list-orderable list e))
           ∙ sym e
       go (Refused c p) e = given-refused (unspacedWith discount) list c p (list-decides (unspacedWith discount) list none grid-passes ∙ e) ∙ sym e
 
@@ -70,11 +67,11 @@ module _ (discount : Discount) (list : List ℕ) where
       go Nothing e = list-known e ∙ sym (rest-decides list (c ∷ []) allChecks (clear-more list [] c (no-check list) e))
 
   -- every answer that is given without a spacing
-  pub outcome-known : (room : ℕ) → outcome (unspacedWith discount) list room ≡ orDrawn (firstRefusal (knownChecks discount) list) (knownSheet discount (drawing (stationOf list)) room)
-  unfolding outcome fitted
+  pub outcome-known : (room : ℕ) → outcome (unspacedWith discount) list room ≡ ifPassed (firstRefusal (knownChecks discount) list) (knownSheet discount (drawing (stationOf list)) room)
+  unfolding outcome sheetIn
   outcome-known room =
-      ap₂ orDrawn checks-known
-      (ap (λ (words : List ℕ). cond (ltb room (length words)) (sentBack 11 (length words)) (drawn words (crossings (drawing (stationOf list))))) (grid-words discount (drawing (stationOf list))))
+      ap₂ ifPassed checks-known
+      (ap (λ (words : List ℕ). fitted words (crossings (drawing (stationOf list))) room) (grid-words discount (drawing (stationOf list))))
 
 -- where nothing is given, the list alone decides
 pub plain-decides : (list : List ℕ) → firstRefusal (callChecks plain) list ≡ firstRefusal allChecks list

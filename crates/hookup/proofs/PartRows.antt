@@ -28,9 +28,9 @@ use Rattle.order.proofs.Bipolar.{Orderable}
 use Rattle.order.proofs.StOrder.{order-ordering, order-mem}
 use Rattle.order.proofs.Ranks.{graph-parts, graph-size, lower-is, upper-is, rank-below, rank-of-part, rank-one, rank-source, rank-analyser}
 use Rattle.order.specs.Graph.{size, lower, upper, linesAt}
-use Rattle.order.specs.Ends.{graphOf}
+use Rattle.order.specs.Orientation.{graphOf}
 use Rattle.drawing.specs.declared.spacing.Spacing.{Spacing}
-use Rattle.drawing.specs.Spots.{Spot, origin}
+use Rattle.geometry.specs.Spots.{Spot, origin}
 use Rattle.drawing.specs.Drawing.{Drawing, spotOf, renumbered}
 use Rattle.drawing.specs.Spacing.{rowAt, spacedSpot, spaced, check14}
 use Rattle.drawing.specs.Sheet.{partSpotWord, headSection, partsSection, cablesSection, lengthsSection, quoteSection, drawingWords, sheetWords, quotedWords}

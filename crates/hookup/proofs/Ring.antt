@@ -16,15 +16,17 @@ use Rattle.words.specs.Words.{cable, cableWord}
 use Rattle.words.proofs.Words.{fields-apart}
 use Rattle.prices.proofs.Discounts.{not-given}
 use Rattle.station.specs.Station.{Cable, Station, noCable, cableOf, stationOf, degree}
-use Rattle.station.specs.Checks.{Clear, listChecks}
+use Rattle.checks.specs.Checks.{Clear}
+use Rattle.station.specs.Checks.{listChecks}
 use Rattle.station.proofs.Computing.{station-computing}
 use Rattle.order.specs.Reach.{Joined, Path, arrived, onward, check9, check10}
 use Rattle.order.specs.Checks.{allChecks}
 use Rattle.order.proofs.Paths.{path-on, path-back}
 use Rattle.order.proofs.Joins.{line-joined}
-use Rattle.order.proofs.Checks.{Part, Off, check9-nothing, check10-nothing}
+use Rattle.order.proofs.Checks.{Part, check9-nothing, check10-nothing}
+use Rattle.order.specs.Bipolar.{Off}
 use Rattle.order.proofs.Bipolar.{Orderable}
-use Rattle.order.proofs.Passed.{list-orderable, list-once}
+use Rattle.order.proofs.Passed.{list-orderable}
 use Rattle.drawing.specs.Drawing.{Drawing, crossings}
 use Rattle.drawing.specs.Spacing.{columnAt, rowAt, spaced, mostPitch, tooLarge, check13, check14}
 use Rattle.drawing.proofs.Spaced.{passed-13, spreads-pass}
@@ -34,8 +36,10 @@ use Rattle.hookup.specs.Options.{plain, spacedBy}
 use Rattle.hookup.specs.Checks.{givenChecks}
 use Rattle.hookup.specs.Drawing.{drawing}
 use Rattle.hookup.specs.Demand.{rowsBelow}
-use Rattle.hookup.specs.Outcome.{drawn, sentBack, outcome}
-use Rattle.hookup.proofs.CallChecks.{all-clear, list-decides, refused-14, call-clear}
+use Rattle.hookup.specs.Outcome.{outcome}
+use Rattle.checks.specs.Outcome.{sentBack, written}
+use Rattle.order.proofs.AllChecks.{all-clear}
+use Rattle.hookup.proofs.CallChecks.{list-decides, refused-14, call-clear}
 use Rattle.hookup.proofs.Drawn.{grid-sizes, head-alone, all-words}
 use Rattle.hookup.proofs.PartRows.{bottom-rows, top-rows, height-is}
 use Rattle.hookup.proofs.Demand3.{sheetOf}
@@ -140,7 +144,7 @@ unfolding station-computing
 analyser-cables = refl
 
 width-1 : drawing st .width ≡ 1
-width-1 = omega (arith, grid-sizes st orderable (list-once ring ring-passes) .width, parts-are, cables-are)
+width-1 = omega (arith, grid-sizes st orderable .width, parts-are, cables-are)
 
 height-255 : drawing st .height ≡ 255
 height-255 = omega (arith, height-is st orderable, source-cables, analyser-cables, parts-are)
@@ -168,7 +172,7 @@ module _ (pitch : ℕ) (good : check13 (spacedBy 1 pitch 0 plain .spacing) ≡ N
   -- 14 looks at the larger of the two
   fourteen : check14 sheet ≡ cond (tooLarge (max 1 (255 * pitch))) (At (max 1 (255 * pitch))) Nothing
   fourteen =
-      head-alone st orderable (options .spacing) (passed-13 (options .spacing) good) (list-once ring ring-passes)
+      head-alone st orderable (options .spacing) (passed-13 (options .spacing) good)
       ∙ ap₂ (λ (w h : ℕ). cond (tooLarge (max w h)) (At (max w h)) Nothing) width-there height-there
 
   too-high : (place room : ℕ) → check14 sheet ≡ At place → outcome options ring room ≡ sentBack 14 place
@@ -188,7 +192,7 @@ module _ (pitch : ℕ) (good : check13 (spacedBy 1 pitch 0 plain .spacing) ≡ N
         cables-are,
       )
 
-  fits : (room : ℕ) → check14 sheet ≡ Nothing → 772 ≤ room → outcome options ring room ≡ drawn (sheetOf options ring) (crossings (drawing st))
+  fits : (room : ℕ) → check14 sheet ≡ Nothing → 772 ≤ room → outcome options ring room ≡ written (sheetOf options ring) (crossings (drawing st))
   fits room e h = drawn-outcome options ring (call-clear options ring given e) room (omega (arith, words-772))
 
   short : (room : ℕ) → check14 sheet ≡ Nothing → room < 772 → outcome options ring room ≡ sentBack 11 772
@@ -206,7 +210,7 @@ ring-64 room = let good = passes 64 (omega arith) (omega arith) in too-high 64 g
 pub ring-17 : (room : ℕ) → outcome (spacedBy 1 17 0 plain) ring room ≡ sentBack 14 4335
 ring-17 room = let good = passes 17 (omega arith) (omega arith) in too-high 17 good 4335 room (fourteen 17 good)
 
-pub ring-16 : outcome (spacedBy 1 16 0 plain) ring 772 ≡ drawn (sheetOf (spacedBy 1 16 0 plain) ring) (crossings (drawing (stationOf ring)))
+pub ring-16 : outcome (spacedBy 1 16 0 plain) ring 772 ≡ written (sheetOf (spacedBy 1 16 0 plain) ring) (crossings (drawing (stationOf ring)))
 ring-16 = let good = passes 16 (omega arith) (omega arith) in fits 16 good 772 (fourteen 16 good) (omega arith)
 
 pub ring-16-short : outcome (spacedBy 1 16 0 plain) ring 771 ≡ sentBack 11 772

@@ -14,7 +14,7 @@ use Rattle.station.specs.Station.{stationOf}
 use Rattle.order.specs.Reach.{connected}
 use Rattle.order.specs.Order.{order}
 use Rattle.order.proofs.Triangle.{triangle}
-use Rattle.drawing.specs.Spots.{spotAt}
+use Rattle.geometry.specs.Spots.{spotAt}
 use Rattle.drawing.specs.Drawing.{Drawing, routeAt, crossPair, crossings}
 use Rattle.drawing.specs.Lengths.{cableLengths}
 use Rattle.drawing.specs.Spacing.{onGrid}
@@ -22,7 +22,8 @@ use Rattle.drawing.specs.Sheet.{sheetWords}
 use Rattle.drawing.proofs.Worked.{thirteen}
 use Rattle.hookup.specs.Options.{plain, quoted, spacedBy}
 use Rattle.hookup.specs.Drawing.{drawing}
-use Rattle.hookup.specs.Outcome.{drawn, sentBack, outcome}
+use Rattle.hookup.specs.Outcome.{outcome}
+use Rattle.checks.specs.Outcome.{sentBack, written}
 use Rattle.hookup.proofs.Demand3.{sheetOf}
 use Rattle.hookup.proofs.Ring.{ring, ring-64, ring-17, ring-16, ring-16-short}
 use Rattle.hookup.proofs.Computing.{hookup-computing}
@@ -96,7 +97,7 @@ pub record Table : Type 0 where
   -- 2026-01: 'The triangle ends `80000001 80001001 80002004 a0000006`', and an output of 13 takes it
   triangle-13 :
       outcome plain triangle 13
-      ≡ drawn
+      ≡ written
       thirteen
       0
   b-order : order (stationOf square) ≡ 0 ∷ 1 ∷ 3 ∷ 2 ∷ []
@@ -128,19 +129,19 @@ pub record Table : Type 0 where
   -- B, C and D pass every check: an output of their words takes them, and one of a word less does not
   b-drawn :
       outcome plain square 16
-      ≡ drawn
+      ≡ written
       (0x40001003 ∷ 0x50000000 ∷ 0x50000001 ∷ 0x50000003 ∷ 0x50001002 ∷ 0x60000000 ∷ 0x60001000 ∷ 0x60002001 ∷ 0x70001003 ∷ 0x60003001 ∷ 0x70001000 ∷ 0x80000001 ∷ 0x80001002 ∷ 0x80002002 ∷ 0x80003003 ∷ 0xa0000008 ∷ [])
       0
   b-short : outcome plain square 15 ≡ sentBack 11 16
   c-drawn :
       outcome plain stationC 20
-      ≡ drawn
+      ≡ written
       (0x40002003 ∷ 0x50001000 ∷ 0x50000002 ∷ 0x50000003 ∷ 0x50000001 ∷ 0x60000001 ∷ 0x70001002 ∷ 0x60001001 ∷ 0x70000000 ∷ 0x60002000 ∷ 0x60003000 ∷ 0x60004002 ∷ 0x70002000 ∷ 0x70002003 ∷ 0x80000003 ∷ 0x80001002 ∷ 0x80002001 ∷ 0x80003001 ∷ 0x80004006 ∷ 0xa000000d ∷ [])
       0
   c-short : outcome plain stationC 19 ≡ sentBack 11 20
   d-drawn :
       outcome plain stationD 41
-      ≡ drawn
+      ≡ written
       (0x40006006 ∷ 0x50002001 ∷ 0x50005002 ∷ 0x50001003 ∷ 0x50002004 ∷ 0x50003005 ∷ 0x60000002 ∷ 0x70002000 ∷ 0x70005000 ∷ 0x60001001 ∷ 0x70001001 ∷ 0x60002000 ∷ 0x60003001 ∷ 0x70003001 ∷ 0x60004002 ∷ 0x70004002 ∷ 0x70004003 ∷ 0x60005001 ∷ 0x70005004 ∷ 0x60006002 ∷ 0x70006002 ∷ 0x70006005 ∷ 0x60007002 ∷ 0x70000003 ∷ 0x70000004 ∷ 0x60008001 ∷ 0x70001005 ∷ 0x60009002 ∷ 0x70002006 ∷ 0x70003006 ∷ 0x80000006 ∷ 0x80001003 ∷ 0x80002003 ∷ 0x80003005 ∷ 0x80004005 ∷ 0x80005005 ∷ 0x80006007 ∷ 0x80007004 ∷ 0x80008004 ∷ 0x80009004 ∷ 0xa000002e ∷ [])
       5
   d-short : outcome plain stationD 40 ≡ sentBack 11 41
@@ -148,10 +149,10 @@ pub record Table : Type 0 where
   a-lengths : cableLengths (drawingOfList triangle) ≡ 1 ∷ 1 ∷ 4 ∷ []
   a-taken : map readyLength (cableLengths (drawingOfList triangle)) ≡ 2 ∷ 2 ∷ 4 ∷ []
   price-2048 : cablePrice 0 2048 ≡ 72580
-  quoted-0 : outcome (quoted 0) triangle 17 ≡ drawn (thirteen ++ 970 ∷ 970 ∷ 1040 ∷ 2980 ∷ []) 0
-  quoted-1250 : outcome (quoted 1250) triangle 17 ≡ drawn (thirteen ++ 849 ∷ 849 ∷ 910 ∷ 2608 ∷ []) 0
-  quoted-5 : outcome (quoted 5) triangle 17 ≡ drawn (thirteen ++ 970 ∷ 970 ∷ 1039 ∷ 2979 ∷ []) 0
-  quoted-10000 : outcome (quoted 10000) triangle 17 ≡ drawn (thirteen ++ 0 ∷ 0 ∷ 0 ∷ 0 ∷ []) 0
+  quoted-0 : outcome (quoted 0) triangle 17 ≡ written (thirteen ++ 970 ∷ 970 ∷ 1040 ∷ 2980 ∷ []) 0
+  quoted-1250 : outcome (quoted 1250) triangle 17 ≡ written (thirteen ++ 849 ∷ 849 ∷ 910 ∷ 2608 ∷ []) 0
+  quoted-5 : outcome (quoted 5) triangle 17 ≡ written (thirteen ++ 970 ∷ 970 ∷ 1039 ∷ 2979 ∷ []) 0
+  quoted-10000 : outcome (quoted 10000) triangle 17 ≡ written (thirteen ++ 0 ∷ 0 ∷ 0 ∷ 0 ∷ []) 0
   quoted-short : outcome (quoted 0) triangle 16 ≡ sentBack 11 17
   -- 'a discount above 10,000, tested before the list; its place is the discount'
   refusal-12 : outcome (quoted 10001) triangle room ≡ sentBack 12 10001
@@ -161,17 +162,17 @@ pub record Table : Type 0 where
   d-quoted :
       cablePrices 1000 (cableLengths (drawingOfList stationD)) ≡ 999 ∷ 905 ∷ 905 ∷ 999 ∷ 999 ∷ 999 ∷ 1062 ∷ 936 ∷ 936 ∷ 936 ∷ []
   -- 2026-06: the triangle with column pitch 2, row pitch 3 and margin 10; run lengths 'and the bill still count grid steps'
-  spaced-triangle : outcome (spacedBy 2 3 10 plain) triangle 13 ≡ drawn printed 0
-  spaced-quoted : outcome (spacedBy 2 3 10 (quoted 1250)) triangle 17 ≡ drawn (printed ++ 849 ∷ 849 ∷ 910 ∷ 2608 ∷ []) 0
+  spaced-triangle : outcome (spacedBy 2 3 10 plain) triangle 13 ≡ written printed 0
+  spaced-quoted : outcome (spacedBy 2 3 10 (quoted 1250)) triangle 17 ≡ written (printed ++ 849 ∷ 849 ∷ 910 ∷ 2608 ∷ []) 0
   spaced-short : outcome (spacedBy 2 3 10 plain) triangle 12 ≡ sentBack 11 13
   -- the greatest pitches and margin
   widest :
       outcome (spacedBy 64 64 255 plain) triangle 13
-      ≡ drawn
+      ≡ written
       (0x4023e27e ∷ 0x500ff0ff ∷ 0x500ff13f ∷ 0x500ff17f ∷ 0x60000000 ∷ 0x60001000 ∷ 0x60002002 ∷ 0x7013f0ff ∷ 0x7013f17f ∷ 0x80000001 ∷ 0x80001001 ∷ 0x80002004 ∷ 0xa0000006 ∷ [])
       0
   -- 'With pitches 1 and margin 0 .. the sheet is the one known so far.'
-  on-grid : outcome (spacedBy 1 1 0 plain) triangle 13 ≡ drawn thirteen 0
+  on-grid : outcome (spacedBy 1 1 0 plain) triangle 13 ≡ written thirteen 0
   d-spaced : outcome (spacedBy 3 2 1 plain) stationD 40 ≡ sentBack 11 41
   -- 13: 'place 0 for column pitch, 1 for row pitch, 2 for margin, first fault given', 'tested after 12 and before the list'
   refusal-13 : outcome (spacedBy 0 0 0 plain) triangle room ≡ sentBack 13 0
@@ -184,7 +185,7 @@ pub record Table : Type 0 where
   -- 14: 'a coordinate or head field above 4,095 .., its place the largest such number', before 11: the ring of 256 parts is 255 high, and 16 is the largest row pitch that fits
   refusal-14 : (room : ℕ) → outcome (spacedBy 1 64 0 plain) ring room ≡ sentBack 14 16320
   refusal-14-least : (room : ℕ) → outcome (spacedBy 1 17 0 plain) ring room ≡ sentBack 14 4335
-  ring-fits : outcome (spacedBy 1 16 0 plain) ring 772 ≡ drawn (sheetOf (spacedBy 1 16 0 plain) ring) (crossings (drawingOfList ring))
+  ring-fits : outcome (spacedBy 1 16 0 plain) ring 772 ≡ written (sheetOf (spacedBy 1 16 0 plain) ring) (crossings (drawingOfList ring))
   ring-short : outcome (spacedBy 1 16 0 plain) ring 771 ≡ sentBack 11 772
 
 pub table : Table

@@ -4,7 +4,7 @@ use Prim.Native.Nat.{ℕ}
 use mathlib.Core.Path.{_≡_, refl, _∙_, subst, subst₂}
 use mathlib.Core.List.{List, [], _∷_, _++_}
 use Rattle.station.specs.Station.{stationOf}
-use Rattle.station.specs.Checks.{Clear}
+use Rattle.checks.specs.Checks.{Clear}
 use Rattle.order.proofs.Triangle.{triangle, triangle-passes}
 use Rattle.drawing.specs.Drawing.{crossings}
 use Rattle.drawing.proofs.Worked.{thirteen}

@@ -1,12 +1,13 @@
 -- What an answer of the call says, in document 01's terms, and what is promised of the output. Assumes nothing.
 use Prim.Native.Nat.{ℕ}
 use mathlib.Core.Path.{_≡_}
-use mathlib.Core.List.{List, _++_}
-use lib.ListN.{length, take, drop}
+use mathlib.Core.List.{List}
+use lib.ListN.{length, take}
 use Rattle.hookup.specs.declared.Options.{Options}
 use Rattle.hookup.specs.declared.Answer.{Answer}
 use Rattle.hookup.specs.declared.Answer.the-variants.{Sheet, Refused}
-use Rattle.hookup.specs.Outcome.{Outcome, drawn, sentBack, outcome}
+use Rattle.checks.specs.Outcome.{written, sentBack, rowAfter}
+use Rattle.hookup.specs.Outcome.{Outcome, outcome}
 use Rattle.hookup.specs.Demand.{Demand3, Ordered, Crossed}
 
 -- 'A successful call returns the words written and the crossings'; a refusal 'returns its number and one place'.
@@ -21,13 +22,8 @@ replyOf (Refused check place) = refusal check place
 
 -- the reply that an outcome asks for
 abbrev pub reply : Outcome → Reply
-reply (drawn words crossings) = counts (length words) crossings
+reply (written words crossings) = counts (length words) crossings
 reply (sentBack check place) = refusal check place
-
--- the output once an outcome is given: the sheet's words, then what stood there; a refusal 'writes no word'
-abbrev pub outputOf : Outcome → List ℕ → List ℕ
-outputOf (drawn words crossings) before = words ++ drop (length words) before
-outputOf (sentBack check place) before = before
 
 -- what is demanded of the words that a sheet leaves in the output: demand 3, of demand 2 that the parts stand in the smallest st-ordering, and that
 -- the crossings are those that the words show
@@ -39,5 +35,5 @@ Demanded (Refused check place) options list output = Unit
 -- a call on what the caller gives and a list, with what stood in the output before and after
 pub record Drew (options : Options) (list before after : List ℕ) (answer : Answer) : Type 0 where
   pub replies : replyOf answer ≡ reply (outcome options list (length before))
-  pub output : after ≡ outputOf (outcome options list (length before)) before
+  pub output : after ≡ rowAfter (outcome options list (length before)) before
   pub demands : Demanded answer options list after

@@ -2,7 +2,7 @@
 use mathlib.Core.List.{List, [], _∷_, _++_}
 use Rattle.prices.specs.Discounts.{check12}
 use Rattle.station.specs.Station.{stationOf}
-use Rattle.station.specs.Checks.{Check}
+use Rattle.checks.specs.Checks.{Check}
 use Rattle.order.specs.Checks.{allChecks}
 use Rattle.drawing.specs.Spacing.{spaced, check13, check14}
 use Rattle.hookup.specs.declared.Options.{Options}

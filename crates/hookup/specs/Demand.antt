@@ -14,7 +14,7 @@ use Rattle.drawing.specs.Drawing.{Drawing, routeAt, Meets, crossings}
 use Rattle.drawing.specs.Spacing.{rowAt, spaced}
 use Rattle.drawing.specs.Sheet.{quotedWords}
 use Rattle.drawing.specs.Reading.{partsByRow, lengthsIn, quoteIn}
-use Rattle.drawing.specs.Sizes.{Sizes}
+use Rattle.drawing.specs.Sizes.{Sizes, Bends}
 use Rattle.drawing.specs.Measured.{Measured}
 use Rattle.hookup.specs.declared.Options.{Options}
 use Rattle.hookup.specs.Reading.{drawingOf}
@@ -40,6 +40,8 @@ pub record Demand3 (options : Options) (list sheet : List ℕ) : Type 0 where
   -- 'What holds between two cables', between cable and part and of a cable with itself, of the words in every spacing
   pub meetings : Meets (drawingOf list sheet)
   pub sizes : Sizes (options .spacing) (stationOf list .parts) (length (stationOf list .cables)) grid (drawingOf list sheet) sheet
+  -- 2026-04: 'no cable has more than two corners'
+  pub bends : Bends (length (stationOf list .cables)) (drawingOf list sheet)
   -- 2026-01: the words 'after the last cable's corners' are the lengths of the lines that the sheet shows, in grid steps, and their total
   pub lengths :
       Measured (options .spacing) (stationOf list .parts) (length (stationOf list .cables)) grid (drawingOf list sheet)

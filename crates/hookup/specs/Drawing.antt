@@ -3,7 +3,7 @@ use Prim.Native.Nat.{ℕ}
 use mathlib.Core.List.{List}
 use Rattle.station.specs.Station.{Station}
 use Rattle.order.specs.Order.{order}
-use Rattle.order.specs.Ends.{rankedBy}
+use Rattle.order.specs.Orientation.{rankedBy}
 use Rattle.drawing.specs.Drawing.{Drawing, renumbered}
 use Rattle.layout.specs.Layout.{layout}
 

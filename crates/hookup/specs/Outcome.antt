@@ -1,33 +1,22 @@
 -- Document 01 at the top: for what the caller gives, a list and a length of output, the sheet with its counts, or the refusal with its number and place. Assumes nothing.
 use Prim.Native.Nat.{ℕ}
-use mathlib.Core.Bool.{cond}
 use mathlib.Core.List.{List}
-use lib.ListN.{length}
-use lib.Dec.{ltb}
+use Rattle.checks.specs.Checks.{firstRefusal}
+use Rattle.checks.specs.Outcome as call
 use Rattle.station.specs.Station.{stationOf}
-use Rattle.station.specs.declared.Verdict.{Verdict}
-use Rattle.station.specs.declared.Verdict.the-variants.{Passed, Refused}
-use Rattle.station.specs.Checks.{firstRefusal}
 use Rattle.drawing.specs.Drawing.{Drawing, crossings}
 use Rattle.drawing.specs.Sheet.{quotedWords}
 use Rattle.hookup.specs.declared.Options.{Options}
 use Rattle.hookup.specs.Checks.{callChecks}
 use Rattle.hookup.specs.Drawing.{drawing}
 
--- 'A successful call returns the words written and the crossings'; a refusal 'returns its number and one place'.
-pub data Outcome : Type 0 where
-  drawn : (words : List ℕ) (crossings : ℕ) → Outcome
-  sentBack : (check place : ℕ) → Outcome
+-- 'A successful call returns the words written and the crossings'
+abbrev pub Outcome : Type 0
+Outcome = call.Outcome ℕ ℕ
 
--- 11: 'output shorter than the sheet', 'words of the sheet'; 2026-05: the bill is at its end, 'and check 11 measures it'; 2026-06: the grid's drawing, as it is spaced
-unfoldable pub fitted : Options → Drawing → ℕ → Outcome
-fitted options d room =
-    let words = quotedWords (options .spacing) (options .discount) d in
-    cond (ltb room (length words)) (sentBack 11 (length words)) (drawn words (crossings d))
-
-unfoldable pub orDrawn : Verdict → Outcome → Outcome
-orDrawn Passed o = o
-orDrawn (Refused check place) o = sentBack check place
+-- 11: 'output shorter than the sheet'; 2026-05: the bill is at its end, 'and check 11 measures it'; 2026-06: the grid's drawing, as it is spaced
+unfoldable pub sheetIn : Options → Drawing → ℕ → Outcome
+sheetIn options d room = call.fitted (quotedWords (options .spacing) (options .discount) d) (crossings d) room
 
 unfoldable pub outcome : Options → List ℕ → ℕ → Outcome
-outcome options list room = orDrawn (firstRefusal (callChecks options) list) (fitted options (drawing (stationOf list)) room)
+outcome options list room = call.ifPassed (firstRefusal (callChecks options) list) (sheetIn options (drawing (stationOf list)) room)

@@ -3,12 +3,12 @@ use Prim.Native.Nat.{ℕ}
 use mathlib.Core.List.{List, map}
 use Rattle.station.specs.Station.{Cable, Station, stationOf}
 use Rattle.order.specs.Order.{order}
-use Rattle.order.specs.Ends.{lowerPart, upperPart}
+use Rattle.order.specs.Orientation.{lowerPart, upperPart}
 use Rattle.drawing.specs.Drawing.{Drawing}
-use Rattle.drawing.specs.Reading.{Ends, drawingIn}
+use Rattle.drawing.specs.Reading.{Endpoints, drawingIn}
 
 -- A cable's corners stand 'from the lower-ranked end upward'.
-unfoldable pub endsBy : List ℕ → Cable → Ends
+unfoldable pub endsBy : List ℕ → Cable → Endpoints
 endsBy parts c = record { first = lowerPart parts c; last = upperPart parts c }
 
 unfoldable pub readBy : List ℕ → Station → List ℕ → Drawing

@@ -7,8 +7,8 @@ use borrow.Author.Tests.{ltb-true, lt-ltb}
 use Rattle.lists.proofs.Bools.{and-e, and-i, same-test}
 use Rattle.order.specs.Graph.{StGraph, size}
 use Rattle.layout.specs.Points.{Course, pointsOf}
-use Rattle.drawing.specs.Crossing.{crossesOver, linesCross}
-use Rattle.drawing.proofs.Crossing.{crossesOver-e, crossesOver-i}
+use Rattle.geometry.specs.Crossing.{crossesOver, linesCross}
+use Rattle.geometry.proofs.Crossing.{crossesOver-e, crossesOver-i}
 use Rattle.layout.specs.Over.{over, coursesCross}
 use Rattle.layout.proofs.Facts.{Facts}
 use Rattle.layout.proofs.Meet.{Over, overSpot, over-crosses, courseAt, polyline, proper, crosses-over}

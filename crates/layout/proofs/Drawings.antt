@@ -6,8 +6,7 @@ use mathlib.Core.Path.{_≡_}
 use mathlib.Core.Logic.{_↔_}
 use lib.ListN.{length}
 use Rattle.order.specs.Graph.{StGraph, Ranked}
-use Rattle.layout.specs.Ports.{inPorts, outPorts}
-use Rattle.layout.specs.Placements.{Depicted}
+use Rattle.layout.specs.Ports.{inPorts, outPorts, Depicted}
 use Rattle.layout.proofs.Ports.{all-in, all-out}
 use Rattle.layout.proofs.Step.{outs, ins, inAt-comes, degree}
 use Rattle.layout.proofs.Width.{goes-out, comes-in}

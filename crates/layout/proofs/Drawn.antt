@@ -12,24 +12,25 @@ use Rattle.lists.proofs.Places.{mem-place, first-between-last}
 use Rattle.lists.proofs.Maps.{map-tabulate}
 use Rattle.lists.proofs.Sums.{sum-le}
 use Rattle.lists.proofs.Increasing.{increasing-le}
-use Rattle.order.specs.Graph.{StGraph, size, lower, upper, Ranked}
-use Rattle.order.proofs.Graphs.{EndsOnce, lower-inside, cables-le}
+use Rattle.order.specs.Graph.{StGraph, size, lower, upper, Ranked, EndsOnce}
+use Rattle.order.proofs.Graphs.{lower-inside, cables-le}
 use Rattle.drawing.specs.declared.spacing.Spacing.{Spacing}
-use Rattle.drawing.specs.Spots.{Spot, origin}
-use Rattle.drawing.specs.Lines.{point, Meetings}
-use Rattle.drawing.specs.Crossing.{linesCross}
+use Rattle.geometry.specs.Spots.{Spot, origin}
+use Rattle.geometry.specs.Lines.{point, Meetings}
+use Rattle.geometry.specs.Crossing.{linesCross}
 use Rattle.drawing.specs.Drawing.{Route, noRoute, Drawing, spotOf, routePoints, routeAt, pointsAt, Meets, crossPair}
 use Rattle.drawing.specs.Lengths.{lineLength, cableLengths, mostLength}
 use Rattle.drawing.specs.Spacing.{columnAt, rowAt, spacedSpot, spaced, onGrid}
 use Rattle.drawing.specs.Sheet.{sheetWords}
-use Rattle.drawing.specs.Reading.{Ends, noEnds}
+use Rattle.drawing.specs.Reading.{Endpoints, noEndpoints}
 use Rattle.drawing.specs.Counts.{cornerCount}
-use Rattle.drawing.proofs.Renaming.{renamed}
+use Rattle.geometry.proofs.Renaming.{renamed}
 use Rattle.drawing.proofs.Lengths.{lengths-count, length-at}
 use Rattle.drawing.proofs.LengthWords.{LengthsFit}
 use Rattle.drawing.proofs.Inside.{Inside}
 use Rattle.drawing.proofs.Spaced.{Increases, grid-increases, parts-spaced, routes-spaced, spot-spaced, first-spaced, last-spaced, points-inside, unspaced}
 use Rattle.drawing.proofs.WordCounts.{words-length}
+use Rattle.drawing.specs.Sizes.{Bends}
 use Rattle.drawing.proofs.Sized.{Joins, GridSizes}
 use Rattle.layout.specs.Columns.{columns}
 use Rattle.layout.specs.Points.{turns, pointsOf, inner, cornersOf, bottomRows, topRows, partSpot, course, rankSpot, courseOf}
@@ -58,7 +59,7 @@ module _ (G : StGraph) where
   abbrev pub routeOf : ℕ → Route
   routeOf i = record { first = lower G i; last = upper G i; corners = cornersOf (courseOf G i) }
 
-  abbrev pub endsOf : ℕ → Ends
+  abbrev pub endsOf : ℕ → Endpoints
   endsOf i = record { first = lower G i; last = upper G i }
 
   pub parts-count : length (layout G .parts) ≡ G .parts
@@ -115,7 +116,7 @@ module _ (G : StGraph) (R : Ranked G) where
   points-at i h =
       let d : Drawing = layout G in
       sym (first-between-last (line i) (spotOf d (routeAt d i .first)) (spotOf d (routeAt d i .last)) origin
-      (by-rank .two i h) (by-rank .starts i h ∙ sym (first-spot i h)) (λ k e. by-rank .ends i k h e ∙ sym (last-spot i h)))
+      (by-rank .alone i h .two) (by-rank .alone i h .starts ∙ sym (first-spot i h)) (λ k e. by-rank .alone i h .ends k e ∙ sym (last-spot i h)))
       ∙ ap (λ (l : List Spot). spotOf d (routeAt d i .first) ∷ (l ++ spotOf d (routeAt d i .last) ∷ [])) (sym (corners-at i h))
 
   ends-inside : (i : ℕ) → i < size G → Inside (length (layout G .parts)) (routeAt (layout G) i)
@@ -216,14 +217,14 @@ module _ (G : StGraph) (R : Ranked G) where
           c .0,
           0,
           c .1,
-          omega (arith, by-rank .two (c .0) (c .1)),
-          subst P (sym (by-rank .starts (c .0) (c .1) ∙ ap (rankSpot G) (c .2))) p,
+          omega (arith, by-rank .alone (c .0) (c .1) .two),
+          subst P (sym (by-rank .alone (c .0) (c .1) .starts ∙ ap (rankSpot G) (c .2))) p,
         )
     rank-reached P (suc k) h p =
         let c = R .entered (suc k) (omega arith) h in
         let last : ℕ = length (line (c .0)) - 1 in
-        let b = by-rank .two (c .0) (c .1) in
-        (c .0, last, c .1, omega arith, subst P (sym (by-rank .ends (c .0) last (c .1) (omega arith) ∙ ap (rankSpot G) (c .2))) p)
+        let b = by-rank .alone (c .0) (c .1) .two in
+        (c .0, last, c .1, omega arith, subst P (sym (by-rank .alone (c .0) (c .1) .ends last (omega arith) ∙ ap (rankSpot G) (c .2))) p)
 
     corner-reached : (P : Spot → Type 0) (i : ℕ) (s : Spot) → i < size G → List·Memᴰ s (cornersOf (courseOf G i)) → P s → Reached line P
     unfolding point
@@ -278,15 +279,15 @@ module _ (G : StGraph) (R : Ranked G) where
 
     -- the numbers of a course fit their fields where the sheet's head does
     module _ (s : Spacing) (I : Increases s) (wide : spaced s (layout G) .width ≤ mostField) (high : spaced s (layout G) .height ≤ mostField) where
-      pub column-fits : (x : ℕ) → x ≤ layout G .width → columnAt s x < 4096
+      pub column-fits : (x : ℕ) → x ≤ layout G .width → columnAt s x ≤ mostField
       unfolding spaced
       column-fits x h = omega (arith, increasing-le (columnAt s) (I .columns) x (layout G .width) h)
 
-      pub row-fits : (y : ℕ) → y ≤ layout G .height → rowAt s y < 4096
+      pub row-fits : (y : ℕ) → y ≤ layout G .height → rowAt s y ≤ mostField
       unfolding spaced
       row-fits y h = omega (arith, increasing-le (rowAt s) (I .rows) y (layout G .height) h)
 
-      spot-fits : (i : ℕ) → i < size G → (p : Spot) → List·Memᴰ p (turns (courseOf G i)) → (columnAt s (p .x) < 4096) × (rowAt s (p .y) < 4096)
+      spot-fits : (i : ℕ) → i < size G → (p : Spot) → List·Memᴰ p (turns (courseOf G i)) → (columnAt s (p .x) ≤ mostField) × (rowAt s (p .y) ≤ mostField)
       spot-fits i h p t = let w = turn-inside i h p t in (column-fits (p .x) (w .0), row-fits (p .y) (w .1))
 
       pub course-fits : (i : ℕ) → i < size G → CourseFits (spacedCourse s (courseOf G i))
@@ -335,16 +336,16 @@ module _ (G : StGraph) (R : Ranked G) where
         routes-count = routes-count G ∙ sym ends-length;
         routes = λ i h.
             let g : i < size G = omega (arith, ends-length) in
-            let e : getD (tabulate (size G) (endsOf G)) i noEnds ≡ endsOf G i = getD-tabulate (size G) (endsOf G) i noEnds g in
+            let e : getD (tabulate (size G) (endsOf G)) i noEndpoints ≡ endsOf G i = getD-tabulate (size G) (endsOf G) i noEndpoints g in
             record {
-              first-is = first-at i g ∙ sym (ap (λ (z : Ends). z .first) e);
-              last-is = last-at i g ∙ sym (ap (λ (z : Ends). z .last) e);
+              first-is = first-at i g ∙ sym (ap (λ (z : Endpoints). z .first) e);
+              last-is = last-at i g ∙ sym (ap (λ (z : Endpoints). z .last) e);
               few = omega (arith, ap length (corners-at i g), corners-four G R i g);
             };
       }
 
-      pub sizes : 3 ≤ G .parts → EndsOnce G → GridSizes (G .parts) (size G) (layout G)
-      sizes three O = record {
+      pub sizes : GridSizes (G .parts) (size G) (layout G)
+      sizes = record {
         x-most = λ i k h. subst (λ (l : List Spot). k < length l → point l k .x ≤ layout G .width) (points-at i h) (λ g. inside i k h g .0);
         x-reached = let r = reached (λ s. suc (s .x) ≡ columns G (G .parts) .count) (width-spot G R two) in (r .0, r .1, r .2, r .3, omega (arith, r .4, width-is));
         y-most = λ i k h. subst (λ (l : List Spot). k < length l → point l k .y ≤ layout G .height) (points-at i h) (λ g. inside i k h g .1);
@@ -354,5 +355,8 @@ module _ (G : StGraph) (R : Ranked G) where
         width = omega (arith, width-is, columns-count G R two);
         height = omega (arith, height-is, bottomRows-le G R, topRows-le G R);
         corners = omega (arith, corner-total, bottomRows-le G R, topRows-le G R);
-        bends = λ i h. omega (arith, ap length (corners-at i h), corners-two G R three O i h);
       }
+
+      -- where the two lowest ranks, and the two highest, are joined once
+      pub bends : 3 ≤ G .parts → EndsOnce G → Bends (size G) (layout G)
+      bends three O = record { most = λ i h. omega (arith, ap length (corners-at i h), corners-two G R three O i h) }

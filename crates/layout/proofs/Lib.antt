@@ -1,5 +1,5 @@
--- Laws of the layout: what its construction establishes (Facts, by Placed), its sizes (Sizes, LineLengths), what follows of meetings (Meet), in every spacing (Maps, SpacedCourses), and crossings (Cross),
--- and what the code rests on (Connections to Lanes).
+-- Laws of the layout: what its construction establishes (Facts, by Placed), its sizes (Sizes, LineLengths), what follows of meetings (Meet), in every spacing (Maps, SpacedCourses), and crossings (Cross).
+-- Assumes nothing.
 pub mod Facts
 pub mod Ports
 pub mod EndLines
@@ -25,11 +25,4 @@ pub mod Cross
 pub mod Drawn
 pub mod Computing
 pub mod Worked
-pub mod Connections
-pub mod Insertion
-pub mod Collecting
 pub mod Bounds
-pub mod Lengths
-pub mod Opening
-pub mod Standing
-pub mod Lanes

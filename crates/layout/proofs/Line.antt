@@ -8,10 +8,10 @@ use mathlib.Core.Path.{_≡_, refl, sym, _∙_, ap, subst, subst₂}
 use mathlib.Core.Logic.{_⊎_, inl, inr}
 use mathlib.Core.List.{List}
 use lib.ListN.{length}
-use Rattle.drawing.specs.Spots.{Spot}
+use Rattle.geometry.specs.Spots.{Spot}
 use Rattle.layout.specs.Points.{Course}
-use Rattle.drawing.specs.Lines.{point, IsRun, OnRun, Between, Level, Upright}
-use Rattle.drawing.proofs.Spots.{spot-path}
+use Rattle.geometry.specs.Lines.{point, IsRun, OnRun, Between, Level, Upright}
+use Rattle.geometry.proofs.Spots.{spot-path}
 use Rattle.layout.proofs.Segments.{Proper, turn, First, Last, Drawn}
 
 -- the spots of an upright segment, in a column from one row up to another

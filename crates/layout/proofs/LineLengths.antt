@@ -9,9 +9,9 @@ use borrow.Author.Tests.{eqb-true}
 use Rattle.lists.specs.Select.{consIf}
 use Rattle.order.specs.Graph.{StGraph, size, lower, upper, Ranked}
 use Rattle.order.proofs.Graphs.{lower-inside, cables-le}
-use Rattle.drawing.specs.Spots.{Spot, sameSpot}
+use Rattle.geometry.specs.Spots.{Spot, sameSpot}
 use Rattle.drawing.specs.Lengths.{steps, distance, lineLength, mostLength}
-use Rattle.drawing.proofs.Spots.{same-spot-e}
+use Rattle.geometry.proofs.Spots.{same-spot-e}
 use Rattle.drawing.proofs.Lengths.{steps-none, steps-back, steps-up, steps-most, length-next, length-one}
 use Rattle.layout.specs.Columns.{bottomLine, topLine, columns}
 use Rattle.layout.specs.Points.{Course, turns, dropRepeats, pointsOf, row, partSpot, course, rankSpot, courseOf}

@@ -4,7 +4,7 @@ use Prim.Native.Nat.{ℕ}
 use mathlib.Core.Path.{_≡_}
 use mathlib.Core.Logic.{_⊎_, inl, inr}
 use Rattle.order.specs.Graph.{StGraph, size, lower, upper}
-use Rattle.drawing.specs.Lines.{Meetings}
+use Rattle.geometry.specs.Lines.{Meetings}
 use Rattle.layout.proofs.Facts.{Facts}
 use Rattle.layout.proofs.Meet.{polyline, meetings}
 use Rattle.lists.proofs.Increasing.{Increasing, increasing-one, increasing-less, increasing-le}

@@ -7,11 +7,11 @@ use mathlib.Core.Logic.{_⊎_, inl, inr}
 use mathlib.Core.List.{List}
 use lib.ListN.{length}
 use Rattle.order.specs.Graph.{StGraph, size, lower, upper}
-use Rattle.drawing.specs.Spots.{Spot}
+use Rattle.geometry.specs.Spots.{Spot}
 use Rattle.layout.specs.Points.{Course, pointsOf}
-use Rattle.drawing.specs.Lines.{NoPoint, CrossesOver, CrossingAt, Meetings}
+use Rattle.geometry.specs.Lines.{NoPoint, CrossesOver, CrossingAt, Meetings}
 use Rattle.layout.proofs.Facts.{Facts}
-use Rattle.drawing.proofs.Spots.{spot-path}
+use Rattle.geometry.proofs.Spots.{spot-path}
 use Rattle.layout.proofs.Segments.{Proper, Drawn, drawn}
 use Rattle.layout.proofs.Line.{line-starts, line-ends, line-two, line-differ, line-straight, line-level-upright, line-upright-level, line-itself, line-own-first, line-own-last}
 use Rattle.layout.proofs.Place.{Low, High, Inner, Dip, Climb, Place, low, high, inner, dip, climb, Column, place, level-lane, upright-column, inner-free, high-free, inner-upright, high-level}
@@ -334,24 +334,28 @@ pub meetings :
     → Meetings (G .parts) (size G) (λ k. record { x = col k; y = row k }) (lower G) (upper G) (polyline G x lo hi col row)
 meetings G x lo hi col row F =
     record {
-      starts = λ i l. line-starts (C i) (pointsOf (C i)) (P i l) (D i l);
-      ends = λ i k l. line-ends (C i) (pointsOf (C i)) (P i l) (D i l) k;
-      two = λ i l. line-two (C i) (pointsOf (C i)) (P i l) (D i l);
-      parts = λ i l. (omega (arith, F .rises i l, F .inside i l), F .inside i l, omega (arith, F .rises i l));
-      differ = λ i k l. line-differ (C i) (pointsOf (C i)) (P i l) (D i l) k;
-      straight = λ i k l. line-straight (C i) (pointsOf (C i)) (P i l) (D i l) k;
-      level-upright = λ i k l. line-level-upright (C i) (pointsOf (C i)) (P i l) (D i l) k;
-      upright-level = λ i k l. line-upright-level (C i) (pointsOf (C i)) (P i l) (D i l) k;
-      once = once G x lo hi col row F;
-      shared = λ i j g h f s p q.
-          met G x lo hi col row F i j g h f (λ e. f (sym e)) s
-          (place (C i) (pointsOf (C i)) (P i g) (D i g) s p)
-          (place (C j) (pointsOf (C j)) (P j h) (D j h) s q);
-      itself = λ i j k l. line-itself (C i) (pointsOf (C i)) (P i l) (D i l) j k;
-      others = λ i p l q z.
-          others-at G x lo hi col row F i p l q (place (C i) (pointsOf (C i)) (P i l) (D i l) (record { x = col p; y = row p }) z);
-      own-first = λ i k l. line-own-first (C i) (pointsOf (C i)) (P i l) (D i l) k;
-      own-last = λ i k l. line-own-last (C i) (pointsOf (C i)) (P i l) (D i l) k;
+      alone = λ i l. record {
+        starts = line-starts (C i) (pointsOf (C i)) (P i l) (D i l);
+        ends = line-ends (C i) (pointsOf (C i)) (P i l) (D i l);
+        two = line-two (C i) (pointsOf (C i)) (P i l) (D i l);
+        parts = (omega (arith, F .rises i l, F .inside i l), F .inside i l, omega (arith, F .rises i l));
+        differ = line-differ (C i) (pointsOf (C i)) (P i l) (D i l);
+        straight = line-straight (C i) (pointsOf (C i)) (P i l) (D i l);
+        level-upright = line-level-upright (C i) (pointsOf (C i)) (P i l) (D i l);
+        upright-level = line-upright-level (C i) (pointsOf (C i)) (P i l) (D i l);
+        itself = line-itself (C i) (pointsOf (C i)) (P i l) (D i l);
+        others = λ p q z.
+            others-at G x lo hi col row F i p l q (place (C i) (pointsOf (C i)) (P i l) (D i l) (record { x = col p; y = row p }) z);
+        own-first = line-own-first (C i) (pointsOf (C i)) (P i l) (D i l);
+        own-last = line-own-last (C i) (pointsOf (C i)) (P i l) (D i l);
+      };
+      together = λ i j g h f. record {
+        once = once G x lo hi col row F i j g h f;
+        shared = λ s p q.
+            met G x lo hi col row F i j g h f (λ e. f (sym e)) s
+            (place (C i) (pointsOf (C i)) (P i g) (D i g) s p)
+            (place (C j) (pointsOf (C j)) (P j h) (D j h) s q);
+      };
       apart = λ p q g h e. same-rank G x lo hi col row F p q g h (ap (λ (s : Spot). s .y) e);
     }
   where

@@ -6,10 +6,10 @@ use native.Mathlib.Decide.{decLt}
 use mathlib.Core.Path.{_≡_, refl, sym, _∙_, ap}
 use mathlib.Core.Logic.{_⊎_, inl, inr}
 use mathlib.Core.List.{List}
-use Rattle.drawing.specs.Spots.{Spot}
+use Rattle.geometry.specs.Spots.{Spot}
 use Rattle.layout.specs.Points.{Course}
-use Rattle.drawing.specs.Lines.{IsRun, OnLine, OnLevel, OnUpright, NoPoint}
-use Rattle.drawing.proofs.Spots.{spot-path}
+use Rattle.geometry.specs.Lines.{IsRun, OnLine, OnLevel, OnUpright, NoPoint}
+use Rattle.geometry.proofs.Spots.{spot-path}
 use Rattle.layout.proofs.Segments.{Proper, turn, First, Last, Drawn}
 use Rattle.layout.proofs.Line.{Horizontal, Segment, starts-at, ends-at, run-segment, segment-run}
 

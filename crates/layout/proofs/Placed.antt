@@ -11,7 +11,7 @@ use borrow.Author.Tests.{eq-eqb, ne-eqb}
 use Rattle.lists.specs.Select.{indexOf}
 use Rattle.order.specs.Graph.{StGraph, size, lower, upper, Ranked}
 use Rattle.order.proofs.Graphs.{lower-inside}
-use Rattle.layout.specs.Columns.{bottomLine, topLine, outgoing, incoming, columns}
+use Rattle.layout.specs.Columns.{bottomLine, topLine, incoming, columns}
 use Rattle.layout.specs.Points as points
 use Rattle.layout.specs.Points.{partSpot, course, rankSpot, courseOf}
 use Rattle.layout.proofs.Facts.{Facts}

@@ -8,10 +8,10 @@ use mathlib.Core.Path.{_≡_, refl, sym}
 use mathlib.Core.Bool.{false}
 use mathlib.Core.List.{List, [], _∷_}
 use lib.ListN.{length}
-use Rattle.drawing.specs.Spots.{Spot, sameSpot}
+use Rattle.geometry.specs.Spots.{Spot, sameSpot}
 use Rattle.layout.specs.Points.{Course, turns, dropRepeats, pointsOf}
-use Rattle.drawing.specs.Lines.{point}
-use Rattle.drawing.proofs.Spots.{spot-path, same-spot, other-column, other-row}
+use Rattle.geometry.specs.Lines.{point}
+use Rattle.geometry.proofs.Spots.{spot-path, same-spot, other-column, other-row}
 
 -- A course whose lanes enclose its parts' rows, and that has a lane beyond a part's row only where its column is not the part's.
 pub record Proper (c : Course) : Type 0 where

@@ -14,10 +14,9 @@ use borrow.Author.Tests.{eqb-true, eq-eqb, ne-eqb}
 use Rattle.lists.specs.Select.{range, tabulate, count, sum, oneIf}
 use Rattle.lists.proofs.Tests.{oneIf-le}
 use Rattle.lists.proofs.Sums.{count-not, sum-ext, sum-add, sum-oneIf}
-use Rattle.order.specs.Graph.{StGraph, size, lower, upper, Ranked}
-use Rattle.order.proofs.Graphs.{EndsOnce}
+use Rattle.order.specs.Graph.{StGraph, size, lower, upper, Ranked, EndsOnce}
 use Rattle.layout.specs.Columns.{bottomLine, topLine, columns}
-use Rattle.drawing.specs.Spots.{Spot}
+use Rattle.geometry.specs.Spots.{Spot}
 use Rattle.layout.specs.Points.{Course, turns, pointsOf, cornersOf, bottomRows, topRows, row, partSpot, course, rankSpot, courseOf}
 use Rattle.layout.proofs.EndLines.{bottom-ends, top-ends}
 use Rattle.layout.proofs.Step.{cable, part, width}

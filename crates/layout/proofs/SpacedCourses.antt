@@ -7,7 +7,7 @@ use lib.ListN.{length, take, drop, length-map}
 use Rattle.lists.specs.Select.{consIf}
 use Rattle.lists.proofs.Maps.{map-take}
 use Rattle.drawing.specs.declared.spacing.Spacing.{Spacing}
-use Rattle.drawing.specs.Spots.{Spot, sameSpot}
+use Rattle.geometry.specs.Spots.{Spot, sameSpot}
 use Rattle.drawing.specs.Spacing.{spacedSpot}
 use Rattle.drawing.proofs.Spaced.{Increases}
 use Rattle.drawing.proofs.SpacedCrossings.{same-kept}

@@ -11,8 +11,8 @@ use lib.Seq.{take-at}
 use borrow.Author.Tests.{eq-eqb, ne-eqb}
 use Rattle.lists.specs.Select.{oneIf, consIf}
 use Rattle.lists.proofs.Tests.{eqb-sym}
-use Rattle.drawing.specs.Spots.{Spot, sameSpot}
-use Rattle.drawing.proofs.Spots.{same-spot-e}
+use Rattle.geometry.specs.Spots.{Spot, sameSpot}
+use Rattle.geometry.proofs.Spots.{same-spot-e}
 use Rattle.layout.specs.Points.{Course, turns, dropRepeats, pointsOf, inner, cornersOf}
 
 -- Equal spots

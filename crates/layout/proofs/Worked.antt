@@ -11,7 +11,7 @@ use Rattle.lists.specs.Select.{upFrom, range, tabulate, filter}
 use Rattle.lists.proofs.Select.{getD-mem}
 use Rattle.order.specs.Graph.{StGraph, lower, upper, linesAt, Ranked}
 use Rattle.layout.proofs.EndLines.{linesAt-e}
-use Rattle.drawing.specs.Spots.{Spot, spotAt}
+use Rattle.geometry.specs.Spots.{Spot, spotAt}
 use Rattle.layout.specs.Points.{cornersOf, rankSpot, courseOf}
 use Rattle.layout.proofs.Computing.{layout-computing}
 

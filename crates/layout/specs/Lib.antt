@@ -3,9 +3,6 @@ pub mod Ports
 pub mod Columns
 pub mod Points
 pub mod Layout
--- What the code keeps
+-- What only laws and the contracts of code cite
 pub mod Over
-pub mod Arrays
-pub mod Incidents
-pub mod Placements
 pub mod Courses

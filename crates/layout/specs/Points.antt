@@ -6,7 +6,7 @@ use lib.ListN.{length, getD, take, drop}
 use lib.Dec.{eqb}
 use Rattle.lists.specs.Select.{oneIf, consIf}
 use Rattle.order.specs.Graph.{StGraph, lower, upper}
-use Rattle.drawing.specs.Spots.{Spot, sameSpot, spotAt}
+use Rattle.geometry.specs.Spots.{Spot, sameSpot, spotAt}
 use Rattle.layout.specs.Columns.{Columns, sourceHasFour, analyserHasFour, bottomLine, topLine, columns}
 
 -- A cable's course: up from its lower part's spot, or down to the lane below it; level in the lower lane to the cable's own column; up to the

@@ -1,7 +1,7 @@
 -- Document 01, 'Columns and rows', with request 2026-04: the ports by which the cables of a part leave it and come in, a clause for each drawing of
 -- figures 2 and 3 of source 000. Counts of cables that no drawing has leave some without a port; that none of these counts occurs is a law
 -- (proofs/Drawings). Assumes nothing.
-use Prim.Native.Nat.{ℕ, zero, suc, _+_}
+use Prim.Native.Nat.{ℕ, zero, suc, _+_, _<_, _≤_}
 use mathlib.Core.List.{List, [], _∷_}
 
 -- Where a cable meets its part: in the part's row, from the left or from the right, or in the part's column, from below or from above.
@@ -98,3 +98,8 @@ portColumn p a left = p
 portColumn p a above = p + a
 portColumn p a right = p + a + 1
 portColumn p a below = p + a + 2
+
+-- figure 2 or 3 has a drawing with these counts of incoming and outgoing cables
+pub record Depicted (ins outs : ℕ) : Type 0 where
+  pub some : 0 < ins + outs
+  pub four : ins + outs ≤ 4

@@ -1,5 +1,4 @@
--- What the order theorem asks of a station: that it is bipolar, which is weaker than a pass of check 10 and follows from it. Assumes nothing.
-use Prim.Native.Nat.{ℕ, _<_}
+-- What the order theorem asks of a station: that it is wired and bipolar, which follows from a pass of checks 1 to 8 and 10. Assumes nothing.
 use native.Mathlib.Decide.{ℕ-discrete}
 use mathlib.Core.Path.{_≡_, sym, _∙_}
 use mathlib.Core.Logic.{_⊎_, inl, inr}
@@ -7,14 +6,8 @@ use Rattle.lists.specs.declared.Found.the-variants.{Nothing}
 use Rattle.station.specs.Station.{Station}
 use Rattle.station.specs.Code.{Wired}
 use Rattle.order.specs.Reach.{Path, check10}
-use Rattle.order.proofs.Checks.{Off, check10-nothing}
-
--- The station is biconnected once a cable joins s and t: for every part v, every other part has a path without v to s or to t. Where v is one of them, the path
--- is to the other.
-abbrev pub Bipolar : Station → Type 0
-Bipolar st =
-    (v p : ℕ) → v < st .parts → p < st .parts → (p ≡ v → ⊥)
-    → Path (st .cables) (Off (st .parts) v) (st .source) p ⊎ Path (st .cables) (Off (st .parts) v) (st .analyser) p
+use Rattle.order.specs.Bipolar.{Off, Bipolar}
+use Rattle.order.proofs.Checks.{check10-nothing}
 
 -- a station with an order: it is wired as checks 1 to 8 say, and bipolar
 pub record Orderable (st : Station) : Type 0 where

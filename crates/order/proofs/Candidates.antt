@@ -17,7 +17,7 @@ use Rattle.order.specs.Reach.{neighbours, Joined, Path, arrived, onward,
 use Rattle.order.specs.Order.{candidate}
 use Rattle.order.proofs.Paths.{path-start, path-end, path-wider, path-on, path-back, path-off, path-last, path-leaves}
 use Rattle.order.proofs.Reach.{Among, reached, unreached-iff, AllJoined, connected-iff}
-use Rattle.order.proofs.Checks.{Off}
+use Rattle.order.specs.Bipolar.{Off}
 use Rattle.order.proofs.Bipolar.{Orderable}
 
 -- 'an unranked part, other than t, that is joined to a ranked part and whose removal from the unranked parts leaves those that remain joined to each other'

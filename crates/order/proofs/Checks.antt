@@ -13,6 +13,7 @@ use Rattle.lists.proofs.Sets.{member-i, member-absent, without-e, without-i}
 use Rattle.lists.proofs.Seek.{First, seek-found, seek-nothing, seek-first, seek-none}
 use Rattle.station.specs.Station.{Station}
 use Rattle.order.specs.Reach.{Path, unreached, connected, check9, check10}
+use Rattle.order.specs.Bipolar.{Off}
 use Rattle.order.proofs.Paths.{path-wider}
 use Rattle.order.proofs.Reach.{Among, reached, unreached-iff, AllJoined, Apart, connected-cases}
 
@@ -82,10 +83,6 @@ module _ (n : ℕ) (p : ℕ → Bool) (Bad Good : ℕ → Type 0) (decides : (x 
 -- inside the station
 abbrev pub Part : ℕ → ℕ → Type 0
 Part n x = x < n
-
--- inside the station without part v
-abbrev pub Off : ℕ → ℕ → ℕ → Type 0
-Off n v x = (x < n) × (x ≡ v → ⊥)
 
 module _ (st : Station) where
   -- 9

@@ -2,7 +2,7 @@
 use Rattle.order.specs.Reach.{neighbours, endsAt, walk, unreached, null, connected, check9, check10}
 use Rattle.order.specs.Checks.{stationChecks, allChecks}
 use Rattle.order.specs.Order.{candidate, firstOr, extend, order, rankIn}
-use Rattle.order.specs.Ends.{lowerRank, upperRank, lowerPart, upperPart, rankedBy}
+use Rattle.order.specs.Orientation.{lowerRank, upperRank, lowerPart, upperPart, rankedBy}
 use Rattle.order.specs.Graph.{linesAt}
 use Rattle.station.proofs.Computing.{station-computing}
 

@@ -12,15 +12,6 @@ use Rattle.lists.proofs.Select.{length-filter}
 use Rattle.lists.proofs.Sums.{count-none, count-all, count-key}
 use Rattle.order.specs.Graph.{StGraph, size, lower, upper, linesAt, Ranked}
 
--- at most one cable goes from rank u to rank v
-abbrev pub Once : StGraph → ℕ → ℕ → Type 0
-Once g u v = (i j : ℕ) → i < size g → j < size g → lower g i ≡ u → upper g i ≡ v → lower g j ≡ u → upper g j ≡ v → i ≡ j
-
--- the two lowest ranks, and the two highest, are not joined more than once
-pub record EndsOnce (g : StGraph) : Type 0 where
-  pub lowest : Once g 0 1
-  pub highest : Once g (g .parts - 2) (g .parts - 1)
-
 module _ (g : StGraph) (R : Ranked g) where
   pub lower-inside : (i : ℕ) → i < size g → lower g i < g .parts
   lower-inside i h = omega (arith, R .rises i h, R .inside i h)

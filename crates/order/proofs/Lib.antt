@@ -5,6 +5,7 @@ pub mod Joins
 pub mod Paths
 pub mod Reach
 pub mod Checks
+pub mod AllChecks
 pub mod Bipolar
 pub mod Candidates
 pub mod Completion
@@ -12,18 +13,6 @@ pub mod StOrder
 pub mod Rule
 pub mod Ranks
 pub mod Graphs
-pub mod Ends
+pub mod Orientation
 pub mod Passed
 pub mod Triangle
-pub mod AdjacencyTable
-pub mod Flags
-pub mod Walks
-pub mod Walking
-pub mod Connected
-pub mod Separation
-pub mod Witnesses
-pub mod Choices
-pub mod PartsByRank
-pub mod Rankings
-pub mod Neighbours
-pub mod LineRanks

@@ -6,21 +6,21 @@ use lib.ListN.{length}
 use Rattle.lists.specs.declared.Found.the-variants.{Nothing}
 use Rattle.words.specs.Limits.{mostCables}
 use Rattle.station.specs.Station.{stationOf}
-use Rattle.station.specs.Checks.{Clear, listChecks}
+use Rattle.checks.specs.Checks.{Clear}
+use Rattle.station.specs.Checks.{listChecks}
 use Rattle.station.specs.Code.{Wired}
-use Rattle.station.proofs.FirstRefusal.{clear-each, clear-prefix, clear-rest}
+use Rattle.checks.proofs.FirstRefusal.{clear-each, clear-prefix, clear-rest}
 use Rattle.station.proofs.Passed.{wired, simple, wired-words, cables-most}
 use Rattle.order.specs.Reach.{check9, check10}
 use Rattle.order.specs.Checks.{stationChecks, allChecks}
 use Rattle.order.specs.Order.{order}
 use Rattle.order.specs.StOrder.{StOrdering, Smallest}
-use Rattle.order.specs.Graph.{Ranked}
-use Rattle.order.specs.Ends.{graphOf}
+use Rattle.order.specs.Graph.{Ranked, EndsOnce}
+use Rattle.order.specs.Orientation.{graphOf}
 use Rattle.order.proofs.Bipolar.{Orderable, bipolar-of-check10}
 use Rattle.order.proofs.StOrder.{order-ordering, order-smallest}
 use Rattle.order.proofs.Ranks.{order-ranked}
-use Rattle.order.proofs.Graphs.{EndsOnce}
-use Rattle.order.proofs.Ends.{ranks-once}
+use Rattle.order.proofs.Orientation.{ranks-once}
 
 -- each of checks 9 and 10 finds nothing
 pub clear-9 : (list : List ℕ) → Clear allChecks list → check9 (stationOf list) ≡ Nothing

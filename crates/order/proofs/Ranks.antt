@@ -19,7 +19,7 @@ use Rattle.order.specs.Reach.{Joined}
 use Rattle.order.specs.Order.{order, rankIn}
 use Rattle.order.specs.StOrder.{StOrdering}
 use Rattle.order.specs.Graph.{StGraph, size, lower, upper, linesAt, Ranked}
-use Rattle.order.specs.Ends.{lowerRank, upperRank, rankedBy, graphOf}
+use Rattle.order.specs.Orientation.{lowerRank, upperRank, rankedBy, graphOf}
 use Rattle.order.proofs.Joins.{within, cableAt, Between, Lined, joined-line, joined-sym}
 use Rattle.order.proofs.Bipolar.{Orderable}
 use Rattle.order.proofs.StOrder.{order-ordering, order-mem, order-distinct}

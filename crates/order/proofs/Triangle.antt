@@ -3,7 +3,7 @@ use Prim.Native.Nat.{ℕ}
 use mathlib.Core.Path.{refl}
 use mathlib.Core.List.{List, [], _∷_}
 use Rattle.station.specs.Station.{stationOf}
-use Rattle.station.specs.Checks.{Clear}
+use Rattle.checks.specs.Checks.{Clear}
 use Rattle.order.specs.Checks.{allChecks}
 use Rattle.order.specs.Order.{order}
 use Rattle.order.specs.StOrder.{Smallest}

@@ -1,5 +1,5 @@
 -- The cables of a station in ranks, which is all that the layout looks at. Assumes nothing.
-use Prim.Native.Nat.{ℕ, suc, _+_, _<_, _≤_}
+use Prim.Native.Nat.{ℕ, suc, _+_, _-_, _<_, _≤_}
 use mathlib.Core.Path.{_≡_}
 use mathlib.Core.List.{List}
 use lib.ListN.{length, getD}
@@ -36,3 +36,12 @@ pub record Ranked (g : StGraph) : Type 0 where
   pub entered : (k : ℕ) → 0 < k → k < g .parts → (i : ℕ) × (i < size g) × (upper g i ≡ k)
   pub continued : (k : ℕ) → suc k < g .parts → (i : ℕ) × (i < size g) × (lower g i ≡ k)
   pub four : (k : ℕ) → length (linesAt (size g) (lower g) k) + length (linesAt (size g) (upper g) k) ≤ mostDegree
+
+-- at most one cable goes from rank u to rank v
+abbrev pub Once : StGraph → ℕ → ℕ → Type 0
+Once g u v = (i j : ℕ) → i < size g → j < size g → lower g i ≡ u → upper g i ≡ v → lower g j ≡ u → upper g j ≡ v → i ≡ j
+
+-- 'the two lowest ranks, and the two highest, are not joined more than once' (2026-12): what the limit of two corners rests on (2026-04)
+pub record EndsOnce (g : StGraph) : Type 0 where
+  pub lowest : Once g 0 1
+  pub highest : Once g (g .parts - 2) (g .parts - 1)

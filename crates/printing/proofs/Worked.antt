@@ -4,7 +4,8 @@ use mathlib.Core.Path.{_≡_, refl, _∙_}
 use mathlib.Core.List.{List, [], _∷_}
 use Rattle.lists.specs.Select.{upFrom, range, tabulate}
 use Rattle.hookup.specs.Options.{plain}
-use Rattle.hookup.specs.Outcome.{fitted, orDrawn, outcome}
+use Rattle.hookup.specs.Outcome.{sheetIn, outcome}
+use Rattle.checks.specs.Outcome.{fitted, ifPassed}
 use Rattle.order.proofs.Triangle.{triangle}
 use Rattle.drawing.proofs.Worked.{thirteen}
 use Rattle.hookup.proofs.Triangle.{triangle-called, triangle-words}
@@ -38,7 +39,7 @@ unfolding hexDigit hexHalf hexLine hexLines
 triangle-text = refl
 
 answer-text : answerText (outcome plain triangle room) ≡ hexLines thirteen
-unfolding outcome orDrawn fitted
+unfolding outcome ifPassed sheetIn fitted
 answer-text = rw (triangle-called, triangle-words) refl
 
 pub triangle-printed : printed triangleFile room ≡ ascii "40001002\n50000000\n50000001\n50000002\n60000000\n60001000\n60002002\n70001000\n70001002\n80000001\n80001001\n80002004\na0000006\n"

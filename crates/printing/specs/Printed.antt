@@ -6,7 +6,8 @@ use lib.ListN.{length, drop}
 use lib.Dec.{ltb, eqb}
 use Rattle.words.specs.Limits.{mostWords}
 use Rattle.hookup.specs.Options.{plain}
-use Rattle.hookup.specs.Outcome.{Outcome, drawn, sentBack, outcome}
+use Rattle.hookup.specs.Outcome.{Outcome, outcome}
+use Rattle.checks.specs.Outcome.{sentBack, written}
 use Rattle.text.specs.Ascii.{ascii}
 use Rattle.text.specs.Bytes.{wordsIn}
 use Rattle.text.specs.Lines.{hexLines, refusedLine}
@@ -29,7 +30,7 @@ loadedRow (Words n) bytes row = wordsIn bytes ++ drop n row
 
 -- a sheet 'a word a line in eight hexadecimal digits'; 'For a refusal it prints `refused`, the number and the place'
 abbrev pub answerText : Outcome → List ℕ
-answerText (drawn words crossings) = hexLines words
+answerText (written words crossings) = hexLines words
 answerText (sentBack check place) = refusedLine check place
 
 -- the text for a file, where that for its list is given

@@ -1,7 +1,7 @@
 // The sheet program from input bytes to output bytes.
+use drafting::draw;
 use hookup::Answer;
 use hookup::Options;
-use hookup::draw;
 use text::bytes::read_words;
 use text::lines::put_hex_lines;
 use text::lines::put_refused;

@@ -1,6 +1,7 @@
 // Makes stored sequences of operations on a list in a row, for the gate: standard input holds for each sequence the count of its row's words, the count of its operations, the row's words, and for each
 // operation four words: 0 for a proposal and 1 for a commit, the cable's two parts, and the version; each word most significant byte first. Printed are each operation's answer and, at the
 // end of a sequence, the row's words.
+use checks::Verdict;
 use console::MOST_READ;
 use console::read_input;
 use console::say;
@@ -9,7 +10,6 @@ use console::say_refused;
 use console::say_words;
 use editor::Proposal;
 use editor::Proposed;
-use station::Verdict;
 
 // The longest row.
 const ROW: usize = 1024;
@@ -25,14 +25,14 @@ fn say_proposal(proposal: Proposal) {
 }
 
 fn propose(row: &[u32], one: u32, other: u32) {
-    match editor::propose(row, one, other) {
+    match editing::propose(row, one, other) {
         Proposed::Valid(proposal) => say_proposal(proposal),
         Proposed::Refused { check, place } => say_refused(check, place),
     }
 }
 
 fn commit(row: &mut [u32], proposal: Proposal) {
-    match editor::commit(row, proposal) {
+    match editing::commit(row, proposal) {
         Verdict::Passed => say(b"committed\n"),
         Verdict::Refused { check, place } => say_refused(check, place),
     }

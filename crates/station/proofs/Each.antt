@@ -17,32 +17,11 @@ use Rattle.lists.proofs.Seek.{seek-nothing}
 use Rattle.words.specs.Words.{kindOf, spareOf, firstOf, secondOf, partsOf, cablesOf, ends, cable}
 use Rattle.words.specs.Limits.{leastParts, mostParts, mostDegree}
 use Rattle.station.specs.Station.{stationOf, degree}
-use Rattle.station.specs.Checks.{
-  Check,
-  Clear,
-  atWhen,
-  check1,
-  kindAt,
-  misplaced,
-  check2,
-  check3,
-  check4,
-  outside,
-  check5,
-  check6,
-  sameParts,
-  repeated,
-  check7,
-  check8,
-  listChecks,
-}
+use Rattle.checks.specs.Checks.{Check, Clear}
+use Rattle.station.specs.Checks.{check1, kindAt, misplaced, check2, check3, check4, outside, check5, check6, sameParts, repeated, check7, check8, listChecks}
 use Rattle.station.specs.Code.{upTo}
-use Rattle.station.proofs.FirstRefusal.{upTo-each}
-
-pub atWhen-nothing : (b : Bool) (place : ℕ) → atWhen b place ≡ Nothing → b ≡ false
-unfolding atWhen
-atWhen-nothing true place e = let z : _≡_ {A = ℕ} 0 1 = cc in absurd (omega arith)
-atWhen-nothing false place e = refl
+use Rattle.checks.proofs.FirstRefusal.{atWhen-nothing}
+use Rattle.station.proofs.UpTo.{upTo-each}
 
 kind-spare : (k d z : ℕ) → (not (eqb k d) || ((eqb k ends || eqb k cable) && not (eqb z 0))) ≡ false → (k ≡ d) × ((d ≡ ends) ⊎ (d ≡ cable) → z ≡ 0)
 kind-spare k d z e = (same, clean)

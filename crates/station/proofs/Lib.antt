@@ -1,11 +1,9 @@
--- Laws of checks 1 to 8 and of the station that a list describes, cited by the proofs of this crate and of later stages. Assumes nothing.
+-- Laws of checks 1 to 8 and of the station that a list describes. Assumes nothing.
 pub mod Computing
 pub mod Worked
 pub mod Tests
-pub mod FirstRefusal
+pub mod UpTo
 pub mod Each
 pub mod Cables
-pub mod Counting
-pub mod Repeats
 pub mod Handshake
 pub mod Passed

@@ -14,9 +14,10 @@ use Rattle.lists.proofs.Sums.{sum-le}
 use Rattle.words.specs.Words.{kindOf, spareOf, firstOf, secondOf, partsOf, cablesOf}
 use Rattle.words.specs.Limits.{leastParts, mostParts, mostDegree, mostCables}
 use Rattle.station.specs.Station.{Cable, noCable, Station, cableOf, stationOf, degree}
-use Rattle.station.specs.Checks.{Clear, kindAt, sameParts, listChecks}
+use Rattle.checks.specs.Checks.{Clear}
+use Rattle.station.specs.Checks.{kindAt, sameParts, listChecks}
 use Rattle.station.specs.Code.{upTo, Wired}
-use Rattle.station.proofs.FirstRefusal.{clear-upTo}
+use Rattle.station.proofs.UpTo.{clear-upTo}
 use Rattle.station.proofs.Each.{placed, words-due, parts-between, inside, different, unrepeated, degree-most}
 use Rattle.station.proofs.Cables.{parts-are, source-is, analyser-is, line-word, cable-at, one-at, other-at}
 use Rattle.station.proofs.Handshake.{handshake, degree-none}

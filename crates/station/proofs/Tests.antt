@@ -10,7 +10,8 @@ use lib.Dec.{eqb, ltb, leb}
 use Rattle.lists.specs.declared.Found.the-variants.{At, Nothing}
 use Rattle.words.specs.Words.{kindOf, spareOf, firstOf, secondOf, partsOf, cablesOf, listHead, ends, cable}
 use Rattle.words.specs.Limits.{leastParts, mostParts, mostDegree}
-use Rattle.station.specs.Checks.{atWhen, kindAt, misplaced, check3, check4, outside}
+use Rattle.checks.specs.Checks.{atWhen}
+use Rattle.station.specs.Checks.{kindAt, misplaced, check3, check4, outside}
 
 -- ---- check 2
 pub misplaced-kind : (i w : ℕ) → (kindOf w ≡ kindAt i → ⊥) → true ≡ misplaced i w

@@ -1,8 +1,9 @@
 -- Document 01's triangle passes checks 1 to 8, and of two checks that apply to a list the earlier is the refusal. Assumes nothing.
 use mathlib.Core.Path.{_≡_, refl}
 use mathlib.Core.List.{[], _∷_}
-use Rattle.station.specs.declared.Verdict.the-variants.{Passed, Refused}
-use Rattle.station.specs.Checks.{firstRefusal, listChecks}
+use Rattle.checks.specs.declared.Verdict.the-variants.{Passed, Refused}
+use Rattle.checks.specs.Checks.{firstRefusal}
+use Rattle.station.specs.Checks.{listChecks}
 use Rattle.station.proofs.Computing.{station-computing}
 
 record Worked : Type 0 where

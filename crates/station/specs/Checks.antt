@@ -1,42 +1,15 @@
--- Document 01, 'Lists that are sent back': the first refusal, and checks 1 to 8, each with its place. A verdict is a pass, or a refusal with its number and
--- place. Assumes nothing.
+-- Document 01, 'Lists that are sent back': checks 1 to 8, each with its place. Assumes nothing.
 use Prim.Native.Nat.{ℕ, _+_, _-_}
-use mathlib.Core.Path.{_≡_}
 use mathlib.Core.Bool.{Bool, cond, not, _&&_, _||_}
 use mathlib.Core.List.{List, [], _∷_}
 use lib.ListN.{length, getD}
 use lib.Dec.{eqb, ltb, leb}
 use Rattle.lists.specs.declared.Found.{Found}
-use Rattle.lists.specs.declared.Found.the-variants.{At, Nothing}
 use Rattle.lists.specs.Search.{seek, isFound}
 use Rattle.words.specs.Words.{kindOf, spareOf, firstOf, secondOf, partsOf, cablesOf, listHead, ends, cable}
 use Rattle.words.specs.Limits.{leastParts, mostParts, mostDegree}
-use Rattle.station.specs.declared.Verdict.{Verdict}
-use Rattle.station.specs.declared.Verdict.the-variants.{Passed, Refused}
+use Rattle.checks.specs.Checks.{Check, atWhen}
 use Rattle.station.specs.Station.{stationOf, degree}
-
--- A check has its number, and finds its place in a list to which it applies.
-pub record Check : Type 0 where
-  pub number : ℕ
-  pub finds : List ℕ → Found
-
--- a refusal 'returns its number and one place'; where its check finds nothing, the later checks decide
-unfoldable pub orElse : ℕ → Found → Verdict → Verdict
-orElse number (At place) later = Refused number place
-orElse number Nothing later = later
-
--- 'Checks run in this order, each over the whole list before the next. The first that applies is the refusal; it is given then and only then.'
-unfoldable pub firstRefusal : List Check → List ℕ → Verdict
-firstRefusal [] list = Passed
-firstRefusal (c ∷ cs) list = orElse (c .number) (c .finds list) (firstRefusal cs list)
-
--- none of the checks applies
-abbrev pub Clear : List Check → List ℕ → Type 0
-Clear checks list = firstRefusal checks list ≡ Passed
-
--- a place, where the condition holds
-unfoldable pub atWhen : Bool → ℕ → Found
-atWhen b place = cond b (At place) Nothing
 
 -- 1: 'fewer than two words', 'words found'
 unfoldable pub check1 : List ℕ → Found

@@ -1,5 +1,5 @@
--- What the code keeps: the checks that it has made, the station of a list that passed them, a table of the pairs of parts. Assumes nothing.
-use Prim.Native.Nat.{ℕ, _+_, _*_, _<_, _≤_, min, max}
+-- What the code keeps: the checks that it has made, the station of a list that passed them. Assumes nothing.
+use Prim.Native.Nat.{ℕ, _<_, _≤_}
 use mathlib.Core.Path.{_≡_}
 use mathlib.Core.List.{List}
 use lib.ListN.{length, getD}
@@ -7,7 +7,8 @@ use lib.Dec.{leb}
 use Rattle.lists.specs.Select.{filter}
 use Rattle.words.specs.Limits.{leastParts, mostParts, mostDegree}
 use Rattle.station.specs.Station.{noCable, Station, degree}
-use Rattle.station.specs.Checks.{Check, listChecks}
+use Rattle.checks.specs.Checks.{Check}
+use Rattle.station.specs.Checks.{listChecks}
 
 -- the checks of a number up to k
 abbrev pub upTo : ℕ → List Check
@@ -25,7 +26,3 @@ pub record Wired (st : Station) : Type 0 where
   pub other : (i : ℕ) → getD (st .cables) i noCable .other < st .parts
   pub loopless : (i : ℕ) → i < length (st .cables) → getD (st .cables) i noCable .one ≡ getD (st .cables) i noCable .other → ⊥
   pub degrees : (p : ℕ) → degree (st .cables) p ≤ mostDegree
-
--- the place of two parts, either way round, in a table with a row of all parts for each part
-abbrev pub pairIndex : ℕ → ℕ → ℕ
-pairIndex a b = min a b * mostParts + max a b

@@ -1,5 +1,5 @@
 -- The station that a list describes, and checks 1 to 8 of document 01. Assumes nothing.
 pub mod Station
 pub mod Checks
--- What the code keeps
+-- What a pass leaves
 pub mod Code

@@ -1,7 +1,8 @@
 -- Taking apart what was made gives the fields back, and a made word has its kind, no spare bit and 32 bits. One law for each layout. Assumes nothing.
-use Prim.Native.Nat.{ℕ, _<_, _^_}
+use Prim.Native.Nat.{ℕ, _<_, _^_, _≤_}
 use mathlib.Core.Path.{_≡_}
 use native.Mathlib.Omega.{arith}
+use Rattle.words.specs.Limits.{mostField}
 use Rattle.words.specs.Words.{kindOf, spareOf, firstOf, secondOf, fields, listHead, listHeadWord, partsOf, cablesOf, lineFields, lineOf, wideField, wideOf}
 
 -- a word with two 12-bit fields: kinds 2 to 5 and 7
@@ -12,7 +13,7 @@ pub record Fields (kind a b w : ℕ) : Type 0 where
   pub second-is : secondOf w ≡ b
   pub fits : w < 2 ^ 32
 
-pub fields-apart : (kind a b : ℕ) → kind < 16 → a < 4096 → b < 4096 → Fields kind a b (fields kind a b)
+pub fields-apart : (kind a b : ℕ) → kind < 16 → a ≤ mostField → b ≤ mostField → Fields kind a b (fields kind a b)
 fields-apart kind a b hk ha hb = omega arith
 
 -- kind 1
@@ -22,7 +23,7 @@ pub record ListHead (n m w : ℕ) : Type 0 where
   pub cables-is : cablesOf w ≡ m
   pub fits : w < 2 ^ 32
 
-pub listHead-apart : (n m : ℕ) → n < 4096 → m < 65536 → ListHead n m (listHeadWord n m)
+pub listHead-apart : (n m : ℕ) → n ≤ mostField → m < 65536 → ListHead n m (listHeadWord n m)
 listHead-apart n m hn hm = omega arith
 
 -- a word with a line number: kinds 6 and 8
@@ -32,7 +33,7 @@ pub record LineFields (kind line b w : ℕ) : Type 0 where
   pub second-is : secondOf w ≡ b
   pub fits : w < 2 ^ 32
 
-pub lineFields-apart : (kind line b : ℕ) → kind < 16 → line < 65536 → b < 4096 → LineFields kind line b (lineFields kind line b)
+pub lineFields-apart : (kind line b : ℕ) → kind < 16 → line < 65536 → b ≤ mostField → LineFields kind line b (lineFields kind line b)
 lineFields-apart kind line b hk hl hb = omega arith
 
 -- a word with one field: kind 10, whose field is a total, and kind 0, whose field are cents

@@ -18,7 +18,7 @@ pub const MOST_WORDS: usize = 4 * MOST_CABLES - MOST_PARTS + 4 + 1 + 1;
 pub const MOST_QUOTED_WORDS: usize = MOST_WORDS + MOST_CABLES + 1;
 
 // The greatest number that 'two 12-bit fields' hold each.
-pub const MOST_FIELD: u32 = 4095;
+pub const MOST_FIELD: usize = 4095;
 
 // Room for the neighbours of each part.
 pub const NEIGHBOUR_PLACES: usize = MOST_DEGREE * MOST_PARTS;

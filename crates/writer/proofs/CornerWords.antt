@@ -14,7 +14,7 @@ use Rattle.lists.specs.Stores.{Stored}
 use Rattle.lists.proofs.Tests.{oneIf-le}
 use Rattle.lists.proofs.Stores.{stored-none, stored-append, stored-as, stored-kept}
 use Rattle.words.specs.Words.{cornerWord, sheetCableWord}
-use Rattle.drawing.specs.Spots.{Spot}
+use Rattle.geometry.specs.Spots.{Spot}
 use Rattle.drawing.specs.Sheet.{cornerSpotWord, routeWords}
 use Rattle.layout.specs.Points.{Course, turns, dropRepeats, pointsOf, inner, cornersOf}
 use Rattle.layout.proofs.Turns.{same-column, same-row}

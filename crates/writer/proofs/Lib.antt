@@ -1,8 +1,6 @@
--- Laws of the writer's code: the tests on two courses (CourseTests), a course's corners as words (CornerWords), a drawing's words section by section
--- (Sections), the quote behind them (Quotes), its crossings cable by cable (CrossingCounts), and what the values of a layout say of its drawing (Layouts).
-pub mod CourseTests
+-- Laws of the writer's code: a course's corners as words (CornerWords), a drawing's words section by section (Sections), the quote behind them (Quotes), and what the values of a layout
+-- say of its drawing as it is spaced and numbered (Layouts). Assumes nothing.
 pub mod CornerWords
 pub mod Sections
 pub mod Quotes
-pub mod CrossingCounts
 pub mod Layouts

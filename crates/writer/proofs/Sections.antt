@@ -13,7 +13,7 @@ use Rattle.lists.proofs.Sums.{sum-tabulate-zero, sum-tabulate}
 use Rattle.lists.proofs.Stores.{stored-append, stored-as}
 use Rattle.words.specs.Words.{sheetHeadWord, cableLengthWord, totalLengthWord}
 use Rattle.drawing.specs.declared.spacing.Spacing.{Spacing}
-use Rattle.drawing.specs.Spots.{origin}
+use Rattle.geometry.specs.Spots.{origin}
 use Rattle.drawing.specs.Drawing.{Route, noRoute, Drawing, spotOf, routeAt, pointsAt, Meets, renumbered}
 use Rattle.drawing.specs.Lengths.{lineLength, cableLengths}
 use Rattle.drawing.specs.Sheet.{partSpotWord, routeWords, routesWords, lengthWords, headSection, partsSection, cablesSection, lengthsSection, drawingWords, sheetWords}

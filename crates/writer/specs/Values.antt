@@ -5,19 +5,15 @@ use mathlib.Core.Bool.{cond}
 use Rattle.lists.specs.declared.Found.{Found}
 use Rattle.lists.specs.declared.Found.the-variants.{At, Nothing}
 use Rattle.words.specs.Limits.{mostField}
-use Rattle.order.specs.declared.Ranking.{Ranking}
-use Rattle.order.specs.Arrays.{graphIn}
-use Rattle.order.specs.Ranking.{namesIn}
+use Rattle.ranking.specs.declared.Ranking.{Ranking}
+use Rattle.ranking.specs.Ranking.{namesIn}
 use Rattle.drawing.specs.declared.spacing.Spacing.{Spacing}
 use Rattle.drawing.specs.Drawing.{Drawing, renumbered}
 use Rattle.drawing.specs.Spacing.{spaced, check13, tooLarge}
-use Rattle.layout.specs.declared.Layout.{Layout}
+use Rattle.placement.specs.declared.Layout.{Layout}
 use Rattle.layout.specs.Layout as drawn
+use Rattle.placement.specs.Arrays.{layoutIn}
 use Rattle.writer.specs.declared.spacing.Head.{Head}
-
--- the drawing of a layout, whose parts are numbered by rank
-abbrev pub layoutIn : Layout → Drawing
-layoutIn l = drawn.layout (graphIn (l .graph))
 
 -- the same drawing, with each part by its own number
 abbrev pub numberedIn : Ranking → Layout → Drawing

@@ -1,10 +1,10 @@
 // 'the grid steps along that cable's line' (2026-01).
-use layout::Course;
+use placement::Course;
 ghost use mathlib.Core.Path.{_≡_};
 ghost use Rattle.drawing.specs.Lengths as drawn;
 ghost use Rattle.drawing.specs.Lengths.{lineLength};
 ghost use Rattle.layout.specs.Points.{pointsOf};
-ghost use Rattle.layout.specs.Arrays.{courseIn};
+ghost use Rattle.placement.specs.Arrays.{courseIn};
 ghost use Rattle.layout.specs.Courses.{LengthFits};
 
 // The steps between two columns, or between two rows.

@@ -1,5 +1,4 @@
-// The words of a layout as they are spaced, its crossings, and what its cables cost.
-pub mod crossings;
+// The words of a layout as they are spaced, and what its cables cost.
 pub mod lengths;
 pub mod quote;
 pub mod sheet;

@@ -2,12 +2,12 @@
 use crate::lengths::line_length;
 use crate::spacing::head_of;
 use crate::spacing::space_course;
-use drawing::Spot;
 use drawing::spacing::Spacing;
 use drawing::spacing::space_spot;
-use layout::Course;
-use layout::Layout;
-use order::Ranking;
+use geometry::Spot;
+use placement::Course;
+use placement::Layout;
+use ranking::Ranking;
 use words::Rank;
 use words::Word;
 ghost use mathlib.Core.Path.{_≡_};
@@ -15,18 +15,19 @@ ghost use mathlib.Core.Bool.{_&&_, _||_};
 ghost use mathlib.Core.List.{[], _∷_, map};
 ghost use Prim.Native.Nat.{_+_, _≤_, _<_};
 ghost use lib.ListN.{length};
+ghost use Rattle.words.specs.Limits.{mostField};
 ghost use Rattle.lists.specs.Select.{oneIf, consIf};
 ghost use Rattle.lists.specs.Stores.{Stored};
 ghost use Rattle.words.specs.Words.{cornerWord};
-ghost use Rattle.order.specs.Ranking.{Inverse};
+ghost use Rattle.ranking.specs.Ranking.{Inverse};
 ghost use Rattle.drawing.specs.declared.spacing.Spacing as given;
 ghost use Rattle.drawing.specs.Drawing.{spotOf};
 ghost use Rattle.drawing.specs.Spacing.{spacedSpot, spaced};
 ghost use Rattle.drawing.specs.Sheet.{partSpotWord, cornerSpotWord, routeWords, headSection, partsSection, cablesSection, lengthsSection, sheetWords};
 ghost use Rattle.layout.specs.Points.{cornersOf};
-ghost use Rattle.layout.specs.Arrays.{courseIn, IsLayout};
+ghost use Rattle.placement.specs.Arrays.{courseIn, IsLayout, layoutIn};
 ghost use Rattle.layout.specs.Courses.{CourseFits};
-ghost use Rattle.writer.specs.Values.{layoutIn, numberedIn, Fits};
+ghost use Rattle.writer.specs.Values.{numberedIn, Fits};
 
 // '3m - n + 3 + d + e words', and m + 1 lengths (2026-01), in every spacing.
 pub fn count_words(layout: Layout) -> usize
@@ -101,7 +102,7 @@ fn put_parts(
 // A corner, where the line turns.
 fn put_corner(sheet: &mut [u32], at: usize, turns: bool, x: u16, y: u16) -> usize
     requires { ⌜ at + oneIf turns ≤ length (now sheet) ⌝ }
-    requires { ⌜ (x < 4096) × (y < 4096) ⌝ }
+    requires { ⌜ (x ≤ mostField) × (y ≤ mostField) ⌝ }
     ensures { λ r. ⌜ Stored (now (sheet .entry)) at (consIf turns (cornerWord x y) []) (now (sheet .exit)) r ⌝ }
 {
     if turns {

@@ -3,17 +3,17 @@ use drawing::spacing::Spacing;
 use drawing::spacing::column_at;
 use drawing::spacing::row_at;
 use drawing::spacing::space_spot;
-use layout::Course;
-use layout::Layout;
 use lists::Found;
+use lists::higher;
+use placement::Course;
+use placement::Layout;
 use words::limits::MOST_FIELD;
 ghost use mathlib.Core.Path.{_≡_};
-ghost use Prim.Native.Nat.{max};
 ghost use Rattle.lists.specs.declared.Found.the-variants.{Nothing};
 ghost use Rattle.drawing.specs.Spacing.{spaced, check13};
-ghost use Rattle.layout.specs.Arrays.{courseIn, IsLayout};
+ghost use Rattle.placement.specs.Arrays.{courseIn, IsLayout, layoutIn};
 ghost use Rattle.layout.specs.Courses.{spacedCourse, CourseFits};
-ghost use Rattle.writer.specs.Values.{layoutIn, IsHead, headCheck};
+ghost use Rattle.writer.specs.Values.{IsHead, headCheck};
 
 // The two numbers of a sheet's head.
 pub struct Head {
@@ -37,12 +37,6 @@ pub fn head_of(layout: Layout, spacing: Spacing) -> Head
     }
 }
 
-fn larger(a: u32, b: u32) -> u32
-    ensures { λ r. ⌜ r ≡ max a b ⌝ }
-{
-    if a < b { b } else { a }
-}
-
 // 14: 'a coordinate or head field above 4,095 .., its place the largest such number', which is the larger of the two head fields.
 pub fn check14(layout: Layout, spacing: Spacing) -> Found
     requires { ⌜ IsLayout layout ⌝ }
@@ -50,9 +44,9 @@ pub fn check14(layout: Layout, spacing: Spacing) -> Found
     ensures { λ r. ⌜ r ≡ headCheck (spaced spacing (layoutIn layout)) ⌝ }
 {
     let head = head_of(layout, spacing);
-    let largest = larger(head.width, head.height);
+    let largest = higher(head.width as usize, head.height as usize);
     if largest > MOST_FIELD {
-        return Found::At(largest as usize);
+        return Found::At(largest);
     }
     Found::Nothing
 }

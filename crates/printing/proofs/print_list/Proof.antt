@@ -8,7 +8,8 @@ use lib.Seq.{length-take-le}
 use Rattle.hookup.specs.declared.Options.{Options}
 use Rattle.hookup.specs.Options.{plain}
 use Rattle.hookup.specs.Outcome.{Outcome, outcome}
-use Rattle.hookup.specs.Answer.{replyOf, reply, outputOf}
+use Rattle.checks.specs.Outcome.{rowAfter}
+use Rattle.hookup.specs.Answer.{replyOf, reply}
 use Rattle.printing.specs.Printed.{room}
 use Rattle.printing.proofs.AnswerLaws.{sheet-stored, refused-stored, sheet-within, outcome-within}
 use Rattle.printing.proofs.print_list.Statement.{statement}
@@ -69,7 +70,7 @@ returns : tie.Need-returns
 returns c =
     let arm = c .before .before .before .before .before .before in
     let call = arm .before .before .before in
-    sheet-stored (given call) (arm .words .given .0 .0) _ _ (sym (replies call) ∙ ap replyOf (arm .words .given .1)) (call .draw .ensures .output ∙ ap (λ (o : Options). outputOf (outcome o (listOf call) room) _) (call .before .plain .ensures)) (c .before .before .put-hex-lines .ensures)
+    sheet-stored (given call) (arm .words .given .0 .0) _ _ (sym (replies call) ∙ ap replyOf (arm .words .given .1)) (call .draw .ensures .output ∙ ap (λ (o : Options). rowAfter (outcome o (listOf call) room) _) (call .before .plain .ensures)) (c .before .before .put-hex-lines .ensures)
 
 same-length-2 : tie.Need-same-length-2
 same-length-2 c = search needs

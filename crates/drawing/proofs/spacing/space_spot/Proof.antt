@@ -1,7 +1,7 @@
 -- Column and row, each by its own map. Assumes nothing.
 use borrow.Author.Needs.{needs}
 use Rattle.drawing.specs.Spacing.{spacedSpot}
-use Rattle.drawing.proofs.Spots.{spot-path}
+use Rattle.geometry.proofs.Spots.{spot-path}
 use Rattle.drawing.proofs.spacing.space_spot.Statement.{statement}
 use Rattle.drawing.proofs.spacing.space_spot.Tie as tie
 

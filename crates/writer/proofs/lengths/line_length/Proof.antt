@@ -1,7 +1,7 @@
 -- The law of a course's length; each sum is at most the whole, which fits. Assumes nothing.
 use native.Mathlib.Omega.{arith}
 use borrow.Author.Needs.{needs}
-use Rattle.layout.specs.Arrays.{courseIn}
+use Rattle.placement.specs.Arrays.{courseIn}
 use Rattle.layout.proofs.LineLengths.{rising-length}
 use Rattle.writer.proofs.lengths.line_length.Statement.{statement}
 use Rattle.writer.proofs.lengths.line_length.Tie as tie

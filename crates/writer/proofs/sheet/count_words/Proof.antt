@@ -1,7 +1,7 @@
 -- The law of the count, over the layout's own numbers. Assumes nothing.
 use native.Mathlib.Omega.{arith}
 use borrow.Author.Needs.{needs}
-use Rattle.writer.proofs.Layouts.{AllPlaces, word-count, parts-few}
+use Rattle.placement.proofs.Layouts.{AllPlaces, word-count, parts-few}
 use Rattle.writer.proofs.sheet.count_words.Statement.{statement}
 use Rattle.writer.proofs.sheet.count_words.Tie as tie
 

@@ -6,10 +6,11 @@ use mathlib.Core.List.{List}
 use lib.ListN.{getD}
 use borrow.Author.Needs.{needs}
 use Rattle.drawing.specs.declared.spacing.Spacing.{Spacing}
-use Rattle.drawing.specs.Spots.{Spot, spotAt}
+use Rattle.geometry.specs.Spots.{Spot, spotAt}
 use Rattle.drawing.specs.Spacing.{spacedSpot}
 use Rattle.drawing.specs.Sheet.{partSpotWord}
-use Rattle.writer.proofs.Layouts.{spot-at, spot-small, bottom-small}
+use Rattle.placement.proofs.Layouts.{spot-at, bottom-small}
+use Rattle.writer.proofs.Layouts.{spot-small}
 use Rattle.writer.proofs.sheet.part_word.Statement.{statement}
 use Rattle.writer.proofs.sheet.part_word.Tie as tie
 

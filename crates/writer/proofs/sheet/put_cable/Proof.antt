@@ -4,7 +4,7 @@ use mathlib.Core.Path.{_∙_}
 use borrow.Author.Needs.{needs}
 use Rattle.drawing.proofs.WordCounts.{route-length}
 use Rattle.layout.specs.Points.{cornersOf}
-use Rattle.layout.specs.Arrays.{courseIn}
+use Rattle.placement.specs.Arrays.{courseIn}
 use Rattle.writer.proofs.CornerWords.{corners-next, corner-few, head-stored}
 use Rattle.writer.proofs.sheet.put_cable.Statement.{statement}
 use Rattle.writer.proofs.sheet.put_cable.Tie as tie

@@ -10,11 +10,11 @@ use Rattle.drawing.specs.Spacing.{spaced}
 use Rattle.drawing.specs.Sheet.{routeWords, cablesSection}
 use Rattle.drawing.proofs.Spaced.{routes-spaced}
 use Rattle.layout.specs.Points.{Course, cornersOf}
-use Rattle.layout.specs.Arrays.{courseIn}
+use Rattle.placement.specs.Arrays.{courseIn, layoutIn}
 use Rattle.layout.specs.Courses.{CourseFits}
-use Rattle.writer.specs.Values.{layoutIn}
 use Rattle.writer.proofs.Sections.{cablesFrom, cables-next, cables-end}
-use Rattle.writer.proofs.Layouts.{AllPlaces, route-count, course-small, route-is}
+use Rattle.placement.proofs.Layouts.{AllPlaces, route-count}
+use Rattle.writer.proofs.Layouts.{course-small, route-is}
 use Rattle.writer.proofs.sheet.put_cables.Statement.{statement}
 use Rattle.writer.proofs.sheet.put_cables.Tie as tie
 

@@ -7,7 +7,7 @@ use lib.ListN.{length}
 use borrow.Author.Needs.{needs}
 use Rattle.lists.specs.Select.{oneIf}
 use Rattle.words.specs.Words.{cornerWord}
-use Rattle.layout.specs.Arrays.{courseIn}
+use Rattle.placement.specs.Arrays.{courseIn}
 use Rattle.writer.proofs.CornerWords.{dips, shifts, returns as returns-to, drops, corner-count, room-left, corners-stored}
 use Rattle.writer.proofs.sheet.put_corners.Statement.{statement}
 use Rattle.writer.proofs.sheet.put_corners.Tie as tie

@@ -8,9 +8,10 @@ use Rattle.lists.proofs.Stores.{stored-as}
 use Rattle.lists.proofs.Storing.{Storing, storing-start, storing-next, storing-kept, storing-place, storing-last}
 use Rattle.words.specs.Words.{cableLengthWord, totalLengthWord}
 use Rattle.drawing.specs.Sheet.{lengthsSection}
-use Rattle.writer.specs.Values.{layoutIn}
+use Rattle.placement.specs.Arrays.{layoutIn}
 use Rattle.writer.proofs.Sections.{lengthsFrom, lengths-next, lengthBefore, before-first, before-next, lengths-last}
-use Rattle.writer.proofs.Layouts.{AllPlaces, route-count, length-small, length-is, lengths-small}
+use Rattle.placement.proofs.Layouts.{AllPlaces, route-count, length-small, length-is}
+use Rattle.writer.proofs.Layouts.{lengths-small}
 use Rattle.writer.proofs.sheet.put_lengths.Statement.{statement}
 use Rattle.writer.proofs.sheet.put_lengths.Tie as tie
 

@@ -7,9 +7,11 @@ use borrow.Author.Needs.{needs}
 use Rattle.drawing.specs.Spacing.{spaced}
 use Rattle.drawing.specs.Sheet.{cablesSection, lengthsSection}
 use Rattle.drawing.proofs.WordCounts.{parts-length, section-lengths}
-use Rattle.writer.specs.Values.{layoutIn, numberedIn}
+use Rattle.placement.specs.Arrays.{layoutIn}
+use Rattle.writer.specs.Values.{numberedIn}
 use Rattle.writer.proofs.Sections.{sections-stored}
-use Rattle.writer.proofs.Layouts.{part-count, layout-meets, number-count, names}
+use Rattle.placement.proofs.Layouts.{part-count, layout-meets}
+use Rattle.writer.proofs.Layouts.{number-count, names}
 use Rattle.writer.proofs.sheet.put_sheet.Statement.{statement}
 use Rattle.writer.proofs.sheet.put_sheet.Tie as tie
 

@@ -5,7 +5,7 @@ use mathlib.Core.Path.{sym, ap, _∙_}
 use borrow.Author.Needs.{needs}
 use Rattle.drawing.specs.Spacing.{columnAt, rowAt, spaced}
 use Rattle.drawing.proofs.Spaced.{passed-13, column-small, row-small}
-use Rattle.writer.proofs.Layouts.{AllPlaces, parts-few, bottom-small, top-small, width-is, height-is}
+use Rattle.placement.proofs.Layouts.{AllPlaces, parts-few, bottom-small, top-small, width-is, height-is}
 use Rattle.writer.proofs.spacing.head_of.Statement.{statement}
 use Rattle.writer.proofs.spacing.head_of.Tie as tie
 

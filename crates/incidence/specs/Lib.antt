@@ -1,0 +1,2 @@
+-- The lines at one rank, as the code holds them. Assumes nothing.
+pub mod Incidents

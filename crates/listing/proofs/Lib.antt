@@ -1,0 +1,3 @@
+-- Laws that the code of checks 1 to 8 rests on. Assumes nothing.
+pub mod Counting
+pub mod Repeats

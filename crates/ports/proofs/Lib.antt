@@ -1,0 +1,2 @@
+-- What the cases of the figures share. Assumes nothing.
+pub mod Chosen

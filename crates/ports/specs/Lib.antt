@@ -1,0 +1,2 @@
+-- Where a part stands, as the code says it. Assumes nothing.
+pub mod Placements
