@@ -24,7 +24,7 @@ HERE = os.path.dirname(os.path.abspath(__file__))
 ROOT = os.path.dirname(HERE)
 
 
-def written(words):
+def numbers(words):
     return '(' + ''.join('0x%x ∷ ' % w for w in words) + '[])'
 
 
@@ -41,7 +41,7 @@ def answer(words, room, discount, spacing):
 def due(words, room, *given):
     got = answer(words, room, *given)
     if got[0] == 'sheet':
-        return 'drawn %s %d' % (written(got[1]), got[2]), 0
+        return 'written %s %d' % (numbers(got[1]), got[2]), 0
     return 'sentBack %d %d' % got[1:], got[1]
 
 
@@ -80,9 +80,23 @@ def struct_given(code):
     return '\n'.join(used + [struct]) + '\n'
 
 
-def checked(crate, below, text, code, gone):
-    """The cases of a text that the checker refuses, and what it says, in a copy of a crate over those below it. Of its proofs only what opens the definitions
+def needed(crate):
+    """The crates that a crate cites, and those that these cite."""
+    with open(os.path.join(ROOT, 'crates.txt'), encoding='utf-8') as f:
+        cited = {name: below.split() for name, below in re.findall(r'^(\w+):(.*)$', f.read(), re.M)}
+    out, todo = [], list(cited[crate])
+    while todo:
+        name = todo.pop()
+        if name not in out:
+            out.append(name)
+            todo += cited.get(name, [])
+    return out
+
+
+def checked(crate, text, code, gone):
+    """The cases of a text that the checker refuses, and what it says, in a copy of a crate over those that it needs. Of its proofs only what opens the definitions
     is in the copy, of its code what `code` gives of src/lib.rt, and of its definitions not the modules that are gone."""
+    below = needed(crate)
     with tempfile.TemporaryDirectory() as top:
         for name in [crate] + below:
             shutil.copytree(os.path.join(ROOT, 'crates', name), os.path.join(top, 'crates', name), ignore=shutil.ignore_patterns('must-fail'))
@@ -149,9 +163,9 @@ def main(a):
         room = rooms(rng, words, *given[k])
         right, check = due(words, room, *given[k])
         tally[check] = tally.get(check, 0) + 1
-        text += ['', 'case-%d : outcome %s %s %d ≡ %s' % (k, options(*given[k]), written(words), room, right), 'unfolding ' + opened, 'case-%d = refl' % k]
+        text += ['', 'case-%d : outcome %s %s %d ≡ %s' % (k, options(*given[k]), numbers(words), room, right), 'unfolding ' + opened, 'case-%d = refl' % k]
     # what only the code's contracts cite goes with the code
-    wrong, output = checked('hookup', ['lists', 'words', 'prices', 'station', 'drawing', 'order', 'layout', 'writer'], text, struct_given, ['Answer'])
+    wrong, output = checked('hookup', text, struct_given, ['Answer'])
     print('%d lists, %d with a discount, %d with a spacing (%s)' % (len(cases), *(sum(k is not None for k in some) for some in (discounts, spacings)), ', '.join('%d %s' % (v, 'drawn' if c == 0 else 'refused by %d' % c) for c, v in sorted(tally.items()))))
     return told(wrong, output, lambda k: '%s %s' % (options(*given[k]), ' '.join('%08x' % w for w in cases[k])))
 
@@ -165,9 +179,9 @@ def operation_due(row, asked):
     number = answer[1] if answer[0] == 'refused' else 0
     if what == lists.PROPOSE:
         right = 'answer.Refused %d %d' % answer[1:] if number else 'answer.Valid (proposal %d %d %d)' % answer[1:]
-        return 'proposed %d %d %s ≡ %s' % (one, other, written(row), right), number
+        return 'proposed %d %d %s ≡ %s' % (one, other, numbers(row), right), number
     verdict = 'Refused %d %d' % answer[1:] if number else 'Passed'
-    return 'effect (Commit (proposal %d %d %d)) %s ≡ record { verdict = %s; row = %s }' % (one, other, count, written(row), verdict, written(after)), number
+    return 'effect (Commit (proposal %d %d %d)) %s ≡ record { verdict = %s; row = %s }' % (one, other, count, numbers(row), verdict, numbers(after)), number
 
 
 def editor(a):
@@ -187,7 +201,7 @@ def editor(a):
         equation, number = operation_due(row, asked)
         tally[number] = tally.get(number, 0) + 1
         text += ['', 'case-%d : %s' % (k, equation), 'unfolding ' + opened, 'case-%d = refl' % k]
-    wrong, output = checked('editor', ['lists', 'words', 'station'], text, lambda code: item(code, 'Proposal') + '\n\n' + item(code, 'Proposed') + '\n', [])
+    wrong, output = checked('editor', text, lambda code: item(code, 'Proposal') + '\n\n' + item(code, 'Proposed') + '\n', [])
     print('%d operations (%s)' % (len(cases), ', '.join('%d %s' % (v, 'not refused' if c == 0 else 'refused by %d' % c) for c, v in sorted(tally.items()))))
     return told(wrong, output, lambda k: '%s on %s' % (cases[k][1], ' '.join('%08x' % w for w in cases[k][0])))
 

@@ -29,7 +29,8 @@ use Rattle.drawing.proofs.Spaced.{passed-13}
 use Rattle.drawing.proofs.Fields.{width-small, height-small}
 use Rattle.layout.specs.Layout.{layout}
 use Rattle.hookup.specs.Drawing.{drawing}
-use Rattle.writer.specs.Values.{headCheck, Fits}
+use Rattle.measuring.specs.Heads.{headCheck}
+use Rattle.writer.specs.Values.{Fits}
 use Rattle.hookup.proofs.Drawn.{is-renumbered, crossings-are, quoted-length-is, head-alone}
 
 module _ (list : List ℕ) (pass : Clear allChecks list) where

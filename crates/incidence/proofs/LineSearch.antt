@@ -18,7 +18,7 @@ use Rattle.lists.proofs.Sort.{sortBy-e}
 use Rattle.lists.proofs.Lastly.{lastly-absent}
 use Rattle.words.specs.declared.Rank.{Rank}
 use Rattle.order.specs.Graph.{StGraph, size, lower, upper, linesAt, Ranked}
-use Rattle.ranking.specs.Ranking.{rankNumbers}
+use Rattle.ordering.specs.Numbers.{rankNumbers}
 use Rattle.ranking.proofs.LineRanks.{rankAt}
 use Rattle.layout.specs.Columns.{lineBetween, bottomLine, topLine, byRank, byColumn, outgoing, incoming}
 use Rattle.layout.specs.Points.{bottomRows, topRows}

@@ -13,7 +13,7 @@ use Rattle.words.specs.declared.Rank.{Rank}
 use Rattle.words.proofs.Rank as of-rank
 use Rattle.order.specs.Graph.{size}
 use Rattle.ranking.specs.declared.Graph.{Graph}
-use Rattle.ranking.specs.Ranking.{rankNumbers}
+use Rattle.ordering.specs.Numbers.{rankNumbers}
 use Rattle.ranking.specs.Arrays.{graphIn, GraphFits}
 use Rattle.ranking.proofs.Graph as of-graph
 use Rattle.ranking.proofs.LineRanks.{rankAt, rank-number}

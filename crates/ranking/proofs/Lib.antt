@@ -1,7 +1,4 @@
--- Laws of the witnesses, of the tests of a candidate and of the arrays that hold an order. Assumes nothing.
-pub mod Witnesses
-pub mod Choices
-pub mod PartsByRank
+-- Laws of the arrays that hold an order and cables in ranks, and of the one call for checks 1 to 10. Assumes nothing.
 pub mod Rankings
 pub mod LineRanks
 pub mod GraphArrays

@@ -16,7 +16,8 @@ use Rattle.order.specs.Checks.{allChecks}
 use Rattle.order.specs.Order.{order, rankIn}
 use Rattle.order.specs.Graph.{StGraph, lower, upper}
 use Rattle.order.specs.Orientation.{graphOf}
-use Rattle.ranking.specs.Ranking.{rankNumbers, RankingOf}
+use Rattle.ordering.specs.Numbers.{rankNumbers}
+use Rattle.ranking.specs.Ranking.{RankingOf}
 use Rattle.order.proofs.Ranks.{graph-parts, graph-size, lower-is, upper-is}
 use Rattle.order.proofs.Passed.{list-wired, list-ranked, lines-most}
 

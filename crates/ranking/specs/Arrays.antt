@@ -4,7 +4,7 @@ use lib.ListN.{take}
 use Rattle.words.specs.Limits.{mostParts, mostCables}
 use Rattle.ranking.specs.declared.Graph.{Graph}
 use Rattle.order.specs.Graph.{StGraph, Ranked}
-use Rattle.ranking.specs.Ranking.{rankNumbers}
+use Rattle.ordering.specs.Numbers.{rankNumbers}
 
 -- of each array, as many lines as there are cables
 abbrev pub graphIn : Graph → StGraph

@@ -1,4 +1,3 @@
--- What the order in code keeps, and what that stands for. Assumes nothing.
+-- What the code's arrays of an order and of cables in ranks stand for. Assumes nothing.
 pub mod Ranking
 pub mod Arrays
-pub mod Choices

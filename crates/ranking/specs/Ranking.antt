@@ -1,28 +1,16 @@
 -- What a ranking of parts says: the parts by rank and the ranks by part. Assumes nothing.
 use Prim.Native.Nat.{ℕ, _<_}
 use mathlib.Core.Path.{_≡_}
-use mathlib.Core.List.{List, map}
-use lib.ListN.{length, getD, take}
-use Rattle.words.specs.declared.Part.{Part}
-use Rattle.words.specs.declared.Rank.{Rank}
+use mathlib.Core.List.{List}
+use lib.ListN.{getD, take}
 use Rattle.checks.specs.declared.Verdict.the-variants.{Passed}
 use Rattle.checks.specs.Checks.{firstRefusal}
 use Rattle.station.specs.Station.{Station, stationOf}
 use Rattle.order.specs.Checks.{allChecks}
+use Rattle.ordering.specs.Numbers.{partNumbers, rankNumbers}
 use Rattle.ranking.specs.declared.Ranking.{Ranking}
 use Rattle.ranking.specs.declared.CheckedRanking.{CheckedRanking}
 use Rattle.order.specs.Order.{order, rankIn}
-
--- the part numbers by rank, and the rank numbers by part
-unfoldable pub partNumbers : List Part → List ℕ
-partNumbers parts = map (λ (p : Part). p .0) parts
-
-unfoldable pub rankNumbers : List Rank → List ℕ
-rankNumbers ranks = map (λ (k : Rank). k .0) ranks
-
--- the rank of each of the given parts
-abbrev pub RanksOf : List ℕ → List Rank → Type 0
-RanksOf parts ranks = (p : ℕ) → rankIn parts p < length parts → getD (rankNumbers ranks) p 0 ≡ rankIn parts p
 
 -- 'rank by part, part by rank': of the order of a station
 pub record RankingOf (st : Station) (r : Ranking) : Type 0 where

@@ -3,6 +3,8 @@ use checks::Verdict;
 use listing::check_list;
 use listing::fields;
 use lists::Found;
+use ordering::order_parts;
+use ordering::ranks_of;
 use reachability::adjacency;
 use reachability::adjacency::Table;
 use reachability::cut_part;
@@ -15,7 +17,6 @@ use words::limits::MOST_PARTS;
 use words::limits::STACK_PLACES;
 
 mod cables;
-mod choose;
 
 ghost use mathlib.Core.Path.{_≡_};
 ghost use Prim.Native.Nat.{_≤_};
@@ -59,8 +60,8 @@ fn rank_parts(list: &[u32], table: &Table, stack: &mut Stack) -> Ranking
     ensures { λ r. ⌜ RankingOf (stationOf (now (list .entry))) r ⌝ }
 {
     let n = fields::part_count(list);
-    let part = choose::order_parts(list, table, stack);
-    let rank = choose::ranks_of(part, n);
+    let part = order_parts(list, table, stack);
+    let rank = ranks_of(part, n);
     Ranking { rank, part }
 }
 

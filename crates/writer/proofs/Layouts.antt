@@ -1,11 +1,9 @@
 -- What the values of a layout say of its drawing as it is spaced and numbered by part, and of its lengths and prices. Assumes nothing.
-use Prim.Native.Nat.{ℕ, _+_, _-_, _*_, _<_, _≤_, max}
+use Prim.Native.Nat.{ℕ, _+_, _-_, _*_, _<_, _≤_}
 use native.Mathlib.Omega.{arith}
-use mathlib.Core.Path.{_≡_, refl, sym, ap, subst, _∙_}
+use mathlib.Core.Path.{_≡_, sym, ap, subst, _∙_}
 use mathlib.Core.List.{map}
 use lib.ListN.{length, getD}
-use borrow.Author.Tests.{lt-ltb, le-ltb}
-use Rattle.lists.specs.declared.Found.the-variants.{At, Nothing}
 use Rattle.lists.proofs.Sums.{sum-le}
 use Rattle.prices.specs.Quote.{cablePrice}
 use Rattle.prices.specs.Values.{longest}
@@ -35,18 +33,8 @@ use Rattle.ranking.proofs.GraphArrays as of-graph
 use Rattle.layout.proofs.SpacedCourses.{corners-of-spaced}
 use Rattle.layout.proofs.Drawn.{route-at, length-most, rank-column, rank-row, column-fits, row-fits, course-fits}
 use Rattle.placement.proofs.Layouts.{courseAt, AllPlaces, column-at, inside, part-count, route-count, length-small, length-is}
-use Rattle.writer.specs.Values.{numberedIn, headCheck, Fits}
+use Rattle.writer.specs.Values.{numberedIn, Fits}
 use Rattle.writer.proofs.Sections.{lengthBefore}
-
--- Check 14 by the larger of the two head fields
-
-pub head-above : (d : Drawing) {k : ℕ} → k ≡ max (d .width) (d .height) → mostField < k → headCheck d ≡ At k
-unfolding headCheck
-head-above d {k} e h = rw (← e, lt-ltb mostField k h) refl
-
-pub head-within : (d : Drawing) {k : ℕ} → k ≡ max (d .width) (d .height) → k ≤ mostField → headCheck d ≡ Nothing
-unfolding headCheck
-head-within d {k} e h = rw (← e, le-ltb mostField k h) refl
 
 -- a spacing that passed check 13
 spacing-increases : (s : Spacing) {d : Drawing} → Fits s d → Increases s

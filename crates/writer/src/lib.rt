@@ -1,5 +1,3 @@
 // The words of a layout as they are spaced, and what its cables cost.
-pub mod lengths;
 pub mod quote;
 pub mod sheet;
-pub mod spacing;

@@ -1,10 +1,10 @@
 // A sheet's words, one behind the other: 'its head, the parts by number, then the cables by line, each followed by its corners', as they are spaced (2026-06); then the lengths (2026-01).
-use crate::lengths::line_length;
-use crate::spacing::head_of;
-use crate::spacing::space_course;
 use drawing::spacing::Spacing;
 use drawing::spacing::space_spot;
 use geometry::Spot;
+use measuring::lengths::line_length;
+use measuring::spacing::head_of;
+use measuring::spacing::space_course;
 use placement::Course;
 use placement::Layout;
 use ranking::Ranking;
@@ -20,7 +20,6 @@ ghost use Rattle.lists.specs.Select.{oneIf, consIf};
 ghost use Rattle.lists.specs.Stores.{Stored};
 ghost use Rattle.words.specs.Words.{cornerWord};
 ghost use Rattle.ranking.specs.Ranking.{Inverse};
-ghost use Rattle.drawing.specs.declared.spacing.Spacing as given;
 ghost use Rattle.drawing.specs.Drawing.{spotOf};
 ghost use Rattle.drawing.specs.Spacing.{spacedSpot, spaced};
 ghost use Rattle.drawing.specs.Sheet.{partSpotWord, cornerSpotWord, routeWords, headSection, partsSection, cablesSection, lengthsSection, sheetWords};
@@ -28,16 +27,6 @@ ghost use Rattle.layout.specs.Points.{cornersOf};
 ghost use Rattle.placement.specs.Arrays.{courseIn, IsLayout, layoutIn};
 ghost use Rattle.layout.specs.Courses.{CourseFits};
 ghost use Rattle.writer.specs.Values.{numberedIn, Fits};
-
-// '3m - n + 3 + d + e words', and m + 1 lengths (2026-01), in every spacing.
-pub fn count_words(layout: Layout) -> usize
-    requires { ⌜ IsLayout layout ⌝ }
-    ensures { λ r. ⌜ ((s : given.Spacing) → r ≡ length (sheetWords s (layoutIn layout))) ⌝ }
-{
-    let n = layout.graph.parts;
-    let m = layout.graph.cables;
-    4 * m + 4 + layout.bottom_rows as usize + layout.top_rows as usize - n
-}
 
 // A word, and the place behind it.
 pub fn put(sheet: &mut [u32], at: usize, w: Word) -> usize

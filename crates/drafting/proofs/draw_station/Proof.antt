@@ -10,7 +10,7 @@ use Rattle.order.specs.Checks.{allChecks}
 use Rattle.order.specs.Orientation.{graphOf}
 use Rattle.drawing.specs.Spacing.{spaced, check13, check14}
 use Rattle.placement.specs.Arrays.{layoutIn}
-use Rattle.writer.specs.Values.{headCheck}
+use Rattle.measuring.specs.Heads.{headCheck}
 use Rattle.hookup.specs.Checks.{callChecks}
 use Rattle.hookup.specs.Drawing.{drawing}
 use Rattle.hookup.proofs.CallChecks.{list-clear, discount-clear, spacing-clear, call-clear}

@@ -10,7 +10,7 @@ use Rattle.station.proofs.Cables.{line-word}
 use Rattle.station.specs.Station.{stationOf}
 use Rattle.order.specs.Graph.{lower, upper}
 use Rattle.order.specs.Orientation.{graphOf}
-use Rattle.ranking.specs.Ranking.{rankNumbers}
+use Rattle.ordering.specs.Numbers.{rankNumbers}
 use Rattle.order.proofs.Passed.{lines-most, words-10}
 use Rattle.ranking.proofs.LineRanks.{blank, length-blank, filled-blank, filled-rank, one-below, other-below, lower-line, upper-line, lines-ranked}
 use Rattle.ranking.proofs.rank_cables.Statement.{statement}

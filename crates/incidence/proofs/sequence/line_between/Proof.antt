@@ -4,7 +4,7 @@ use mathlib.Core.Path.{refl}
 use Prim.Native.Nat.{_-_}
 use lib.ListN.{take}
 use Rattle.lists.proofs.Seeking.{Seeking, seeking-start, seeking-next, seeking-at, seeking-end}
-use Rattle.ranking.specs.Ranking.{rankNumbers}
+use Rattle.ordering.specs.Numbers.{rankNumbers}
 use Rattle.incidence.specs.Incidents.{at}
 use Rattle.ranking.proofs.GraphArrays.{lines-count}
 use Rattle.incidence.proofs.LineSearch.{goesBetween, goes-read, between-found}

@@ -5,7 +5,7 @@ use mathlib.Core.Path.{_≡_, _∙_}
 use lib.ListN.{length, getD, take, length-replicate, length-set}
 use Rattle.words.specs.Limits.{mostCables}
 use Rattle.lists.proofs.Kept.{below-set}
-use Rattle.ranking.specs.Ranking.{rankNumbers}
+use Rattle.ordering.specs.Numbers.{rankNumbers}
 use Rattle.ranking.specs.Arrays.{graphIn}
 use Rattle.layout.specs.Points.{courseOf}
 use Rattle.placement.specs.Arrays.{courseIn, noCourse}

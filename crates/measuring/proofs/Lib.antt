@@ -1,0 +1,2 @@
+-- The law of check 14. Assumes nothing.
+pub mod Heads
