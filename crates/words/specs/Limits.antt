@@ -36,9 +36,10 @@ neighbourPlaces = mostDegree * mostParts
 abbrev pub adjacencyPlaces : ℕ
 adjacencyPlaces = neighbourPlaces + mostParts
 
--- the stack of a walk, which puts its first part on it and then each part's neighbours: at most 1 + 4n of its places are used
+-- the stack of a walk, which puts its first part on it and then each part's neighbours in place of the part: a walk has at most 1 + 4n parts on it, and the
+-- last ones put there are at most four
 abbrev pub stackPlaces : ℕ
-stackPlaces = neighbourPlaces + mostParts
+stackPlaces = neighbourPlaces + mostDegree
 
 -- a table of the pairs of parts
 abbrev pub pairPlaces : ℕ
