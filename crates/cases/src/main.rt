@@ -1,6 +1,7 @@
-// Makes every call of a stored file, for the gate: standard input holds for each call the count of its list's words, whether a discount is given, the discount, the column pitch,
-// the row pitch, the margin, and the list's words, each most significant byte first. Each list is drawn with room to spare, filled with a mark; a sheet also with the exact room and with one
-// word less, a refused list also with no room. Printed are the answers, the sheet's words, and whether what lies behind them is as it was.
+// Makes every call of a stored file, for the gate: standard input holds for each call the count of its list's words, whether a discount is
+// given, the discount, the column pitch, the row pitch, the margin, and the list's words, each most significant byte first. Each list is
+// drawn with room to spare, filled with a mark; a sheet also with the exact room and with one word less, a refused list also with no room.
+// Printed are the answers, the sheet's words, and whether what lies behind them is as it was.
 use console::MOST_READ;
 use console::read_input;
 use console::say;

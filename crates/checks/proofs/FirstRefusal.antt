@@ -1,5 +1,5 @@
--- The first refusal of any list of checks: a prefix that finds nothing leaves it to the rest, the first check that finds a place gives it, and a pass is a pass
--- of each check; checks made on another list. Assumes nothing.
+-- The first refusal of any list of checks: a prefix that finds nothing leaves it to the rest, the first check that finds a place gives it,
+-- and a pass is a pass of each check; checks made on another list. Assumes nothing.
 use Prim.Native.Nat.{ℕ}
 use native.Mathlib.Omega.{arith}
 use mathlib.Core.Path.{_≡_, refl, sym, ap, _∙_}

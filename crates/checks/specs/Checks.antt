@@ -18,7 +18,8 @@ unfoldable pub orElse : ℕ → Found → Verdict → Verdict
 orElse number (At place) later = Refused number place
 orElse number Nothing later = later
 
--- 'Checks run in this order, each over the whole list before the next. The first that applies is the refusal; it is given then and only then.'
+-- 'Checks run in this order, each over the whole list before the next. The first that applies is the refusal; it is given then and only
+-- then.'
 unfoldable pub firstRefusal : List Check → List ℕ → Verdict
 firstRefusal [] list = Passed
 firstRefusal (c ∷ cs) list = orElse (c .number) (c .finds list) (firstRefusal cs list)

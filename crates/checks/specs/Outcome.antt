@@ -1,4 +1,5 @@
--- What a call answers that writes into a row which it is lent, and what it leaves there: for rows of words, and of any other element. Assumes nothing.
+-- What a call answers that writes into a row which it is lent, and what it leaves there: for rows of words, and of any other element.
+-- Assumes nothing.
 use Prim.Native.Nat.{ℕ}
 use mathlib.Core.Bool.{cond}
 use mathlib.Core.List.{List, _++_}

@@ -1,4 +1,5 @@
-// Standard input and output of the programs that the gate runs on stored calls: words most significant byte first, and words, numbers and refusals in the sheet program's form.
+// Standard input and output of the programs that the gate runs on stored calls: words most significant byte first, and words, numbers and
+// refusals in the sheet program's form.
 use libc::STDIN_FILENO;
 use libc::STDOUT_FILENO;
 use text::bytes::read_words;

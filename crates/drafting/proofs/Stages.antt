@@ -12,7 +12,8 @@ use Rattle.station.specs.Station.{stationOf}
 use Rattle.checks.specs.Checks.{Clear}
 use Rattle.order.specs.Order.{order, rankIn}
 use Rattle.order.specs.Checks.{allChecks}
-use Rattle.order.specs.Graph.{StGraph, Ranked}
+use Rattle.order.specs.Graph.{StGraph}
+use Rattle.order.specs.RankedGraphs.{Ranked}
 use Rattle.order.specs.Orientation.{graphOf}
 use Rattle.ranking.specs.Ranking.{RankingOf, namesIn, Inverse}
 use Rattle.ranking.specs.Arrays.{graphIn, GraphFits}

@@ -18,8 +18,8 @@ ghost use Rattle.ranking.specs.Ranking.{RankingOf};
 ghost use Rattle.hookup.specs.Checks.{givenChecks};
 ghost use Rattle.hookup.specs.Answer.{Drew};
 
-// A list that passed checks 1 to 10, under options that passed 12 and 13, is laid out in its order and measured; numbers too large for their fields are refused (14), and then an
-// output too short (11), before a word is written.
+// A list that passed checks 1 to 10, under options that passed 12 and 13, is laid out in its order and measured; numbers too large for
+// their fields are refused (14), and then an output too short (11), before a word is written.
 fn draw_station(list: &[u32], sheet: &mut [u32], options: Options, ranking: Ranking) -> Answer
     requires { ⌜ Clear (givenChecks options) (now list) ⌝ }
     requires { ⌜ RankingOf (stationOf (now list)) ranking ⌝ }
@@ -44,7 +44,8 @@ fn draw_station(list: &[u32], sheet: &mut [u32], options: Options, ranking: Rank
     }
 }
 
-// The sheet of a list, written to the front of the output, or the first check that applies: what the caller gives is tested before the list.
+// The sheet of a list, written to the front of the output, or the first check that applies: what the caller gives is tested before the
+// list.
 pub fn draw(list: &[u32], sheet: &mut [u32], options: Options) -> Answer
     ensures { λ r. ⌜ Drew options (now (list .entry)) (now (sheet .entry)) (now (sheet .exit)) r ⌝ }
 {

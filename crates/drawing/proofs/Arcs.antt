@@ -1,5 +1,5 @@
--- The arcs of a drawing that meets demand 3 (2026-02: 'the arcs that the screen now draws where lines cross'): two cables that cross have one crossing,
--- and a spot is the crossing of two cables alone. So there are as many arcs as pairs. Assumes nothing.
+-- The arcs of a drawing that meets demand 3 (2026-02: 'the arcs that the screen now draws where lines cross'): two cables that cross have
+-- one crossing, and a spot is the crossing of two cables alone. So there are as many arcs as pairs. Assumes nothing.
 use Prim.Native.Nat.{ℕ, _-_, _<_}
 use native.Mathlib.Omega.{arith}
 use native.Mathlib.Decide.{ℕ-discrete, decLt}

@@ -1,4 +1,5 @@
--- The definitions that worked examples compute with, opened together: an example names `drawing-computing` on its unfolding line. Assumes nothing.
+-- The definitions that worked examples compute with, opened together: an example names `drawing-computing` on its unfolding line. Assumes
+-- nothing.
 use Rattle.geometry.specs.Spots.{sameSpot}
 use Rattle.geometry.specs.Lines.{point}
 use Rattle.geometry.specs.Crossing.{between, meetingSpot, runsCross, crossesOver, linesCross}

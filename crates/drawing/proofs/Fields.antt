@@ -1,5 +1,5 @@
--- Numbers and their fields: check 14 passes exactly where every number fits its field, and its place is the larger of the two head fields where no coordinate exceeds
--- them. Assumes nothing.
+-- Numbers and their fields: check 14 passes exactly where every number fits its field, and its place is the larger of the two head fields
+-- where no coordinate exceeds them. Assumes nothing.
 use Prim.Native.Nat.{ℕ, _<_, _≤_, max}
 use native.Mathlib.Omega.{arith}
 use native.Mathlib.Decide.{decLt}

@@ -1,6 +1,7 @@
--- Laws of drawings: spots and their test (Spots), the test that lines cross (Crossing), an arc for each pair that does (Arcs), the lengths of lines (Lengths)
--- and their words (LengthWords), drawings that are spaced (Spaced, SpacedCrossings) and whose numbers fit (Fields), all words read back (ReadBack, Measured) and counted (WordCounts), other numbers of the parts (Renaming,
--- Renumbered), sizes (Sized), what the cables cost behind them (Quoted), and small examples (Worked). Assumes nothing.
+-- Laws of drawings: an arc for each pair of lines that cross (Arcs), the lengths of lines (Lengths) and their words (LengthWords), drawings
+-- that are spaced (Spaced, SpacedCrossings) and whose numbers fit (Fields), all words read back (ReadBack, Measured) and counted
+-- (WordCounts), other numbers of the parts (Renumbered), sizes (Sized), what the cables cost behind them (Quoted), and small examples
+-- (Worked). Assumes nothing.
 pub mod Arcs
 pub mod Lengths
 pub mod LengthWords

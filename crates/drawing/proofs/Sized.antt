@@ -1,4 +1,5 @@
--- Whose drawing it is, and its sizes: what the layout shows of the drawing on the grid, under other numbers of the parts, and as it is spaced. Assumes nothing.
+-- Whose drawing it is, and its sizes: what the layout shows of the drawing on the grid, under other numbers of the parts, and as it is
+-- spaced. Assumes nothing.
 use Prim.Native.Nat.{ℕ, _+_, _*_, _<_, _≤_, max}
 use native.Mathlib.Nat.{mul-comm}
 use native.Mathlib.Omega.{arith}

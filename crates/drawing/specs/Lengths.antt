@@ -21,7 +21,8 @@ lineLength [] = 0
 lineLength (p ∷ []) = 0
 lineLength (p ∷ q ∷ r) = distance p q + lineLength (q ∷ r)
 
--- 2026-06: 'Run lengths .. still count grid steps', on a spaced sheet: steps in x divided by the column pitch, and steps in y divided by the row pitch
+-- 2026-06: 'Run lengths .. still count grid steps', on a spaced sheet: steps in x divided by the column pitch, and steps in y divided by
+-- the row pitch
 abbrev pub gridDistance : Spacing → Spot → Spot → ℕ
 gridDistance s p q = steps (p .x) (q .x) / s .«column_pitch» + steps (p .y) (q .y) / s .«row_pitch»
 

@@ -1,5 +1,5 @@
--- Document 01 and requests 2026-01, 2026-02, 2026-05 and 2026-06: what a sheet is: a drawing, the lengths of its lines, its spacing, its words,
--- and the drawing that words show. Assumes nothing.
+-- Document 01 and requests 2026-01, 2026-02, 2026-05 and 2026-06: what a sheet is: a drawing, the lengths of its lines, its spacing, its
+-- words, and the drawing that words show. Assumes nothing.
 pub mod Drawing
 pub mod Lengths
 pub mod Spacing

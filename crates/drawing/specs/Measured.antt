@@ -1,5 +1,5 @@
--- What is promised of the lengths on a sheet (requests 2026-01 and 2026-06): of the grid's drawing of n parts and m cables, of the drawing on the sheet, and of
--- the words behind its cables. Assumes nothing.
+-- What is promised of the lengths on a sheet (requests 2026-01 and 2026-06): of the grid's drawing of n parts and m cables, of the drawing
+-- on the sheet, and of the words behind its cables. Assumes nothing.
 use Prim.Native.Nat.{ℕ, _+_, _<_, _≤_}
 use mathlib.Core.Path.{_≡_}
 use mathlib.Core.List.{List, map}

@@ -1,6 +1,6 @@
--- Document 01: 'A sheet is its head, the parts by number, then the cables by line, each followed by its corners from the lower-ranked end upward.'
--- Request 2026-01: behind them the lengths of the cables; 2026-05: and behind those what the cables cost; 2026-06: all spaced, with the grid's lengths. The words of a drawing, section by section.
--- Assumes nothing.
+-- Document 01: 'A sheet is its head, the parts by number, then the cables by line, each followed by its corners from the lower-ranked end
+-- upward.' Request 2026-01: behind them the lengths of the cables; 2026-05: and behind those what the cables cost; 2026-06: all spaced,
+-- with the grid's lengths. The words of a drawing, section by section. Assumes nothing.
 use Prim.Native.Nat.{ℕ, _+_}
 use mathlib.Core.List.{List, [], _∷_, _++_, map}
 use lib.ListN.{length, getD}

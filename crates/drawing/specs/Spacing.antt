@@ -56,7 +56,8 @@ badPitch pitch = eqb pitch 0 || ltb mostPitch pitch
 
 -- 13: 'a pitch of 0 or above 64, or a margin above 255 .., place 0 for column pitch, 1 for row pitch, 2 for margin, first fault given'
 unfoldable pub check13 : Spacing → Found
-check13 s = cond (badPitch (s .«column_pitch»)) (At 0) (cond (badPitch (s .«row_pitch»)) (At 1) (cond (ltb mostMargin (s .margin)) (At 2) Nothing))
+check13 s =
+    cond (badPitch (s .«column_pitch»)) (At 0) (cond (badPitch (s .«row_pitch»)) (At 1) (cond (ltb mostMargin (s .margin)) (At 2) Nothing))
 
 -- Drawings that are sent back
 

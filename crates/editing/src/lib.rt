@@ -1,4 +1,5 @@
-// The station editor's operations on a list that grows in a lent row, one cable at a time (request 2026-07): a cable is proposed, and the proposal committed, in the terms of optimistic concurrency control.
+// The station editor's operations on a list that grows in a lent row, one cable at a time (request 2026-07): a cable is proposed, and the
+// proposal committed, in the terms of optimistic concurrency control.
 use checks::Verdict;
 use editor::Proposal;
 use editor::Proposed;

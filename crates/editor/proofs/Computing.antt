@@ -1,4 +1,5 @@
--- The definitions that worked examples compute with, opened together: an example names `editor-computing` on its unfolding line. Assumes nothing.
+-- The definitions that worked examples compute with, opened together: an example names `editor-computing` on its unfolding line. Assumes
+-- nothing.
 use Rattle.station.proofs.Computing.{station-computing}
 use Rattle.editor.specs.Rows.{present, listIn, raisedBy, followedBy, longer}
 use Rattle.checks.specs.Checks.{madeOn}

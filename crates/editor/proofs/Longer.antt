@@ -1,5 +1,5 @@
--- A list that passes checks 1 to 8, with one more cable, whose parts have room in their fields: what each of checks 1 to 8 finds. Checks 1 to 4 find nothing, 5 to 7
--- nothing but the new word, and 8 nothing but its two parts. Assumes nothing.
+-- A list that passes checks 1 to 8, with one more cable, whose parts have room in their fields: what each of checks 1 to 8 finds. Checks 1
+-- to 4 find nothing, 5 to 7 nothing but the new word, and 8 nothing but its two parts. Assumes nothing.
 use Prim.Native.Nat.{ℕ, suc, _+_, _-_, _<_, _≤_, min, max}
 use native.Mathlib.Omega.{arith}
 use native.Mathlib.Decide.{ℕ-discrete, decLt}

@@ -1,4 +1,5 @@
--- The theorem over runs of operations: 'that list followed by the cables of the successful lays, in their sequence', which passes checks 1 to 8 again. Assumes nothing.
+-- The theorem over runs of operations: 'that list followed by the cables of the successful lays, in their sequence', which passes checks 1
+-- to 8 again. Assumes nothing.
 use Prim.Native.Nat.{ℕ, suc, _+_, _<_}
 use native.Mathlib.Omega.{arith}
 use mathlib.Core.Path.{_≡_, refl, sym, ap, _∙_}
@@ -111,8 +112,8 @@ grown-commit p operations row C rest (Refused check place) e =
     let f = commit-refused p row check place e in
     grown-kept (Commit p) operations row (ap (λ (x : Effect). x .row) f) (ap (λ (x : Effect). laidBy (Commit p) (x .verdict)) f) (rest row C)
 
--- 'From a row whose list passes checks 1 to 8, with nothing else writing to it, any run of tries and lays leaves that list followed by the cables of the successful lays, in
--- their sequence.'
+-- 'From a row whose list passes checks 1 to 8, with nothing else writing to it, any run of tries and lays leaves that list followed by the
+-- cables of the successful lays, in their sequence.'
 pub grown : (operations : List Operation) (row : List ℕ) → Clear listChecks (listIn row) → Grown operations row
 unfolding run laid effect leaves laidBy
 grown [] row C = record {

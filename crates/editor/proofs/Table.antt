@@ -1,4 +1,5 @@
--- The examples of request 2026-07, as the definitions give them: a list grown in a row of four words and in one of five, and each refusal with its place. Assumes nothing.
+-- Worked examples of request 2026-07, which names none, as the definitions give them: a list grown in a row of four words and in one of
+-- five, and each refusal with its place. Assumes nothing.
 use Prim.Native.Nat.{ℕ}
 use mathlib.Core.Path.{_≡_, refl}
 use mathlib.Core.List.{List, [], _∷_}
@@ -22,11 +23,11 @@ row1 = 0x10030001 ∷ 0x20000002 ∷ 0x30000001 ∷ 8 ∷ []
 abbrev row2 : List ℕ
 row2 = 0x10030002 ∷ 0x20000002 ∷ 0x30000001 ∷ 0x30001002 ∷ []
 
--- five parts, of which part 0 has four cables and part 1 one
+-- six parts, of which part 0 has four cables, parts 1 to 4 one each and part 5 none
 abbrev star : List ℕ
 star = 0x10060004 ∷ 0x20000005 ∷ 0x30001000 ∷ 0x30000002 ∷ 0x30000003 ∷ 0x30000004 ∷ 0 ∷ []
 
--- the request's run, with tries among the lays and a slip that is laid twice
+-- a run that grows the triangle, with tries among the lays and a slip that is laid twice
 abbrev operations : List Operation
 operations =
     Propose 0 1
@@ -46,7 +47,7 @@ record Table : Type 0 where
   laid-again : effect (Commit (proposal 0 1 0)) row2 ≡ record { verdict = Refused 15 2; row = row2 }
   no-room : proposed 0 2 row2 ≡ answer.Refused 16 4
   no-room-to-lay : effect (Commit (proposal 0 2 2)) row2 ≡ record { verdict = Refused 16 4; row = row2 }
-  -- 'In a row of 5 it is laid, and the row holds the triangle'
+  -- in a row of five words the run leaves the triangle
   triangle : run operations (0x10030000 ∷ 0x20000002 ∷ 0 ∷ 0 ∷ 0 ∷ []) ≡ 0x10030003 ∷ 0x20000002 ∷ 0x30000001 ∷ 0x30001002 ∷ 0x30000002 ∷ []
   cables : laid operations (0x10030000 ∷ 0x20000002 ∷ 0 ∷ 0 ∷ 0 ∷ []) ≡ 0x30000001 ∷ 0x30001002 ∷ 0x30000002 ∷ []
   -- a word behind the fifth stays
@@ -57,7 +58,7 @@ record Table : Type 0 where
   -- a number of which the field would hold another cable's
   large-first : proposed 4097 2 row1 ≡ answer.Refused 5 3
   crowded : proposed 5 0 star ≡ answer.Refused 8 0
-  crowded-lower : proposed 1 5 star ≡ answer.Valid (proposal 1 5 4)
+  uncrowded : proposed 1 5 star ≡ answer.Valid (proposal 1 5 4)
   -- 5 to 8 before 16, and 15 before all of them
   seven-before-sixteen : proposed 1 0 row2 ≡ answer.Refused 7 4
   fifteen-before-five : effect (Commit (proposal 0 4096 1)) row2 ≡ record { verdict = Refused 15 2; row = row2 }
@@ -86,7 +87,7 @@ table = record {
   large = refl;
   large-first = refl;
   crowded = refl;
-  crowded-lower = refl;
+  uncrowded = refl;
   seven-before-sixteen = refl;
   fifteen-before-five = refl;
   no-words = refl;

@@ -1,4 +1,5 @@
--- Request 2026-07: what an operation on a row answers, and the row that it leaves. The contracts of both calls cite these definitions. Assumes nothing.
+-- Request 2026-07: what an operation on a row answers, and the row that it leaves. The contracts of both calls cite these definitions.
+-- Assumes nothing.
 use Prim.Native.Nat.{ℕ, _+_}
 use mathlib.Core.List.{List}
 use lib.ListN.{getD, set}
@@ -38,7 +39,9 @@ pub record Effect : Type 0 where
   pub row : List ℕ
 
 unfoldable pub effect : Operation → List ℕ → Effect
-effect operation row = let verdict = firstRefusal (checksOf operation) row in record { verdict = verdict; row = leaves operation verdict row }
+effect operation row =
+    let verdict = firstRefusal (checksOf operation) row in
+    record { verdict = verdict; row = leaves operation verdict row }
 
 -- a 'slip, holding the cable and the count of cables then present'
 unfoldable pub slip : ℕ → ℕ → List ℕ → Proposal

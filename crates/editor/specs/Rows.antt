@@ -1,4 +1,5 @@
--- Request 2026-07: 'The station editor grows a list one cable at a time in a lent row.' The list in a row, and a list with further cables. Assumes nothing.
+-- Request 2026-07: 'The station editor grows a list one cable at a time in a lent row.' The list in a row, and a list with further cables.
+-- Assumes nothing.
 use Prim.Native.Nat.{ℕ, _+_}
 use mathlib.Core.List.{List, [], _∷_, _++_}
 use lib.ListN.{length, getD, set, take}

@@ -27,7 +27,8 @@ unfoldable pub laid : List Operation → List ℕ → List ℕ
 laid [] row = []
 laid (operation ∷ operations) row = laidBy operation (effect operation row .verdict) ++ laid operations (effect operation row .row)
 
--- what a run leaves of a row: 'that list followed by the cables of the successful lays, in their sequence', which passes checks 1 to 8, and behind it what stood there
+-- what a run leaves of a row: 'that list followed by the cables of the successful lays, in their sequence', which passes checks 1 to 8, and
+-- behind it what stood there
 pub record Grown (operations : List Operation) (row : List ℕ) : Type 0 where
   pub list : listIn (run operations row) ≡ followedBy (listIn row) (laid operations row)
   pub passes : Clear listChecks (listIn (run operations row))

@@ -1,7 +1,8 @@
-// A list that grows in a lent row, one cable at a time (request 2026-07): definitions and laws, and the two types that they speak of, in the terms of optimistic
-// concurrency control.
+// A list that grows in a lent row, one cable at a time (request 2026-07): definitions and laws, and the two types that they speak of, in
+// the terms of optimistic concurrency control.
 
-// A cable and the version of the list that it was proposed for, which is its count of cables: the document's 'slip'. Nothing in it is trusted.
+// A cable and the version of the list that it was proposed for, which is its count of cables: the document's 'slip'. Nothing in it is
+// trusted.
 #[repr(C)]
 pub struct Proposal {
     pub one: u32,

@@ -1,5 +1,5 @@
--- Bounds of an answer: a refusal's number is 1 to 14; 12, 13 and 14 come where the check of the discount, of the spacing and of the drawing as it is spaced applies, and 11 only where the output
--- has fewer than `mostWordsFor` words, which no sheet exceeds. Assumes nothing.
+-- Bounds of an answer: a refusal's number is 1 to 14; 12, 13 and 14 come where the check of the discount, of the spacing and of the drawing
+-- as it is spaced applies, and 11 only where the output has fewer than `mostWordsFor` words, which no sheet exceeds. Assumes nothing.
 use Prim.Native.Nat.{ℕ, _<_, _≤_}
 use mathlib.Core.Path.{_≡_, refl, sym, _∙_, subst}
 use mathlib.Core.Bool.{Bool, true, false, cond}

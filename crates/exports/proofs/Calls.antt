@@ -111,8 +111,8 @@ grid-never-14 {discount} {list} result C e =
     let z : _≡_ {A = ℕ} 0 1 = cc in
     absurd (omega arith)
 
--- What each call never tells: 11 where the output has the words that suffice, 12 where no discount is given, or one of 10,000 at most, 13 where the pitches are 1 to 64 and the margin is 255 at most,
--- and 13 and 14 where no spacing is given.
+-- What each call never tells: 11 where the output has the words that suffice, 12 where no discount is given, or one of 10,000 at most, 13
+-- where the pitches are 1 to 64 and the margin is 255 at most, and 13 and 14 where no spacing is given.
 module _ {list before after : List ℕ} {numbers left : Lent} where
   pub plain-never-11 : (result : ℕ) → mostWords ≤ length before → Called plain list before after numbers left result → result ≡ 11 → ⊥
   plain-never-11 result h C = never-11 result h C

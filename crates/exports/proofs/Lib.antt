@@ -1,4 +1,5 @@
--- What follows for a caller: bounds of the result and of the words, the length of output that always suffices (Bounds), and that a call is determined (Calls); the editor's calls (Edits). Assumes nothing.
+-- What follows for a caller: bounds of the result and of the words, the length of output that always suffices (Bounds), and that a call is
+-- determined (Calls); the editor's calls (Edits). Assumes nothing.
 pub mod Bounds
 pub mod Calls
 pub mod Edits

@@ -1,4 +1,5 @@
--- The C form of the editor's calls (2026-07): which answer a result and the lent numbers stand for, and which numbers stay. Assumes nothing.
+-- The C form of the editor's calls (2026-07): which answer a result and the lent numbers stand for, and which numbers stay. Assumes
+-- nothing.
 use Prim.Native.Nat.{ℕ, zero, suc}
 use mathlib.Core.Path.{_≡_}
 use mathlib.Core.List.{List}

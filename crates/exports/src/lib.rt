@@ -39,7 +39,8 @@ fn refuse(check: u8, found: usize, place: &mut usize) -> u32
     check as u32
 }
 
-// An answer by a result and lent numbers: 0 for a sheet, with its words and crossings stored, and the check's number for a refusal, with its place stored.
+// An answer by a result and lent numbers: 0 for a sheet, with its words and crossings stored, and the check's number for a refusal, with
+// its place stored.
 fn tell(answer: Answer, words: &mut usize, crossings: &mut usize, place: &mut usize) -> u32
     requires { ⌜ Numbered answer ⌝ }
     ensures { λ r. ⌜ Told answer
@@ -133,7 +134,8 @@ pub extern "C" fn dovranis_draw_quoted_spaced(
     crossings: &mut usize,
     place: &mut usize,
 ) -> u32
-    ensures { λ r. ⌜ Called (spacedBy «column_pitch» «row_pitch» margin (quoted discount)) (now (list .entry)) (now (sheet .entry)) (now (sheet .exit))
+    ensures { λ r. ⌜ Called (spacedBy «column_pitch» «row_pitch» margin (quoted discount))
+        (now (list .entry)) (now (sheet .entry)) (now (sheet .exit))
         (lent (now (words .entry)) (now (crossings .entry)) (now (place .entry)))
         (lent (now (words .exit)) (now (crossings .exit)) (now (place .exit))) r ⌝ }
 {

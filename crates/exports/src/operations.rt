@@ -16,7 +16,8 @@ pub extern "C" fn dovranis_propose(
     version: &mut u32,
     place: &mut usize,
 ) -> u32
-    ensures { λ r. ⌜ Tried one other (now (row .entry)) (noted (now (version .entry)) (now (place .entry))) (noted (now (version .exit)) (now (place .exit))) r ⌝ }
+    ensures { λ r. ⌜ Tried one other (now (row .entry))
+        (noted (now (version .entry)) (now (place .entry))) (noted (now (version .exit)) (now (place .exit))) r ⌝ }
 {
     match propose(row, one, other) {
         Proposed::Valid(proposal) => {

@@ -7,8 +7,8 @@ use lib.ListN.{length}
 use Rattle.geometry.specs.Spots.{Spot}
 use Rattle.geometry.specs.Lines.{point, IsRun, OnRun, Level, Upright, OnLine, CrossingAt, CommonPart, Meetings}
 
--- Below n each part has a rank, no two the same, and its spot is its rank's; each cable's first and last part have its lower and its upper rank, and
--- its points are the same.
+-- Below n each part has a rank, no two the same, and its spot is its rank's; each cable's first and last part have its lower and its upper
+-- rank, and its points are the same.
 pub record Renames
     (n m : ℕ) (spot : ℕ → Spot) (lower upper : ℕ → ℕ) (points : ℕ → List Spot)
     (rank : ℕ → ℕ) (spot′ : ℕ → Spot) (first last : ℕ → ℕ) (points′ : ℕ → List Spot) : Type 0 where

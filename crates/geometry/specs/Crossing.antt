@@ -9,13 +9,15 @@ use Rattle.geometry.specs.Spots.{Spot, sameSpot}
 use Rattle.geometry.specs.Lines.{point}
 
 unfoldable pub between : Spot → Spot → Spot → Bool
-between p q s = leb (min (p .x) (q .x)) (s .x) && leb (s .x) (max (p .x) (q .x)) && leb (min (p .y) (q .y)) (s .y) && leb (s .y) (max (p .y) (q .y))
+between p q s =
+    leb (min (p .x) (q .x)) (s .x) && leb (s .x) (max (p .x) (q .x)) && leb (min (p .y) (q .y)) (s .y) && leb (s .y) (max (p .y) (q .y))
 
 -- The one spot that a level run and an upright run can share is in the row of the first and the column of the second.
 unfoldable pub meetingSpot : List Spot → ℕ → List Spot → ℕ → Spot
 meetingSpot ps k qs l = record { x = point qs l .x; y = point ps k .y }
 
--- 'a crossing where it lies on a level run of one and an upright run of the other and is no point of either cable': run k of the one, l of the other
+-- 'a crossing where it lies on a level run of one and an upright run of the other and is no point of either cable': run k of the one, l of
+-- the other
 unfoldable pub runsCross : List Spot → ℕ → List Spot → ℕ → Bool
 runsCross ps k qs l =
     let s = meetingSpot ps k qs l in

@@ -1,4 +1,5 @@
--- Document 01, the paragraph 'A spot is a whole x with a whole y': runs, lines, crossing, touching, over the points of each cable. Assumes nothing.
+-- Document 01, the paragraph 'A spot is a whole x with a whole y': runs, lines, crossing, touching, over the points of each cable. Assumes
+-- nothing.
 use Prim.Native.Nat.{ℕ, suc, _<_, _≤_, min, max}
 use mathlib.Core.Path.{_≡_}
 use mathlib.Core.Logic.{_⊎_}
@@ -58,7 +59,8 @@ CrossingAt ps qs s = CrossesOver ps qs s ⊎ CrossesOver qs ps s
 
 -- Of n parts at their spots: what demand 3 says of the cable from part a to part b with the points ps by itself.
 pub record Lone (n : ℕ) (spot : ℕ → Spot) (a b : ℕ) (ps : List Spot) : Type 0 where
-  -- 'from one of its parts to the other': its first point is its first part's spot, its last point its other part's, and the two parts differ
+  -- 'from one of its parts to the other': its first point is its first part's spot, its last point its other part's, and the two parts
+  -- differ
   pub starts : point ps 0 ≡ spot a
   pub ends : (k : ℕ) → suc k ≡ length ps → point ps k ≡ spot b
   pub two : 2 ≤ length ps

@@ -1,4 +1,5 @@
--- An output of `mostWordsFor` words suffices for every sheet: more of it changes no answer, so that check 11 never refuses there. Assumes nothing.
+-- An output of `mostWordsFor` words suffices for every sheet: more of it changes no answer, so that check 11 never refuses there. Assumes
+-- nothing.
 use Prim.Native.Nat.{ℕ, _≤_}
 use native.Mathlib.Omega.{arith}
 use mathlib.Core.Path.{_≡_, refl, sym, _∙_}

@@ -1,4 +1,5 @@
--- The definitions that worked examples compute with, opened together: an example names `hookup-computing` on its unfolding line. Assumes nothing.
+-- The definitions that worked examples compute with, opened together: an example names `hookup-computing` on its unfolding line. Assumes
+-- nothing.
 use Rattle.hookup.specs.Checks.{optionChecks, givenChecks, drawingChecks, callChecks}
 use Rattle.hookup.specs.Drawing.{drawingBy, drawing}
 use Rattle.hookup.specs.Outcome.{sheetIn, outcome}

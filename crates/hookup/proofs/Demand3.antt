@@ -1,4 +1,5 @@
--- Demand 3, whole, the order of demand 2, and the crossings (2026-02), for the words of the drawing of every list that is not sent back, whatever the caller gave. Assumes nothing.
+-- Demand 3, whole, the order of demand 2, and the crossings (2026-02), for the words of the drawing of every list that is not sent back,
+-- whatever the caller gave. Assumes nothing.
 use Prim.Native.Nat.{ℕ, _+_, _<_, _≤_, _^_}
 use native.Mathlib.Omega.{arith}
 use mathlib.Core.Path.{_≡_, refl, sym, ap, _∙_, subst}
@@ -17,20 +18,24 @@ use Rattle.order.proofs.StOrder.{order-ordering, order-smallest}
 use Rattle.order.proofs.Orientation.{parts-joined}
 use Rattle.order.proofs.Passed.{list-orderable, list-once}
 use Rattle.drawing.specs.Drawing.{Drawing, routeAt, Meets, crossings}
-use Rattle.drawing.specs.Spacing.{rowAt, spaced, check13}
+use Rattle.drawing.specs.Spacing.{rowAt, spaced, check13, check14}
 use Rattle.drawing.specs.Sheet.{quotedWords}
+use Rattle.drawing.specs.Counts.{quoteCount}
+use Rattle.drawing.proofs.Quoted.{quoted-length}
+use Rattle.prices.specs.declared.Discount.{Discount}
+use Rattle.drawing.specs.declared.spacing.Spacing.{Spacing}
 use Rattle.drawing.specs.Reading.{Endpoints, noEndpoints, partsByRow, lengthsIn}
-use Rattle.drawing.specs.Sizes.{Sizes, Bends}
+use Rattle.drawing.specs.Sizes.{Sizes, Exactly, Bends}
 use Rattle.drawing.specs.Measured.{Measured}
 use Rattle.drawing.proofs.Spaced.{Spreads, passed-13, increases, spaced-one}
 use Rattle.hookup.specs.declared.Options.{Options}
 use Rattle.hookup.specs.Checks.{callChecks}
 use Rattle.hookup.specs.Drawing.{drawing}
 use Rattle.hookup.specs.Reading.{endsBy, drawingOf}
-use Rattle.hookup.specs.Demand.{Form, Demand3, rowOf, Ordered, Crossed}
+use Rattle.hookup.specs.Demand.{Form, rowsBelow, rowsAbove, Demand3, rowOf, Ordered, Crossed}
 use Rattle.hookup.proofs.CallChecks.{checked-given, list-clear, spacing-clear, drawing-clear}
-use Rattle.hookup.proofs.Drawn.{endsOf, mostWordsFor, joins, meets-spaced, crossings-there, reads, sizes, bends, measured, quote, all-fit, quoted-most}
-use Rattle.hookup.proofs.PartRows.{parts-by-row, rank-row, bottom-rows}
+use Rattle.hookup.proofs.Drawn.{endsOf, mostWordsFor, joins, routes-are, corner-total, all-words, grid-sizes, meets-spaced, crossings-there, reads, sheet-corners, sizes, bends, measured, quote, all-fit, quoted-most}
+use Rattle.hookup.proofs.PartRows.{parts-by-row, rank-row, bottom-rows, top-rows, height-is}
 
 module _ (st : Station) (H : Orderable st) where
   ends-at : (i : ℕ) → i < length (st .cables) → getD (endsOf st) i noEndpoints ≡ endsBy (order st) (getD (st .cables) i noCable)
@@ -57,6 +62,16 @@ module _ (st : Station) (H : Orderable st) where
         (λ e. inl (first-at i h ∙ e .0, last-at i h ∙ e .1))
         (λ e. inr (first-at i h ∙ e .0, last-at i h ∙ e .1))
         (parts-joined (order st) (getD (st .cables) i noCable));
+  }
+
+  -- the sizes as document 01 has them
+  exact : (s : Spacing) (P : Spreads s) → check14 (spaced s (drawing st)) ≡ Nothing → (discount : Discount)
+      → Exactly discount (st .parts) (length (st .cables)) (rowsBelow st) (rowsAbove st) (drawing st) (quotedWords s discount (drawing st))
+  exact s P pass discount = record {
+    width = grid-sizes st H .width;
+    height = height-is st H;
+    corners = omega (arith, sheet-corners st H s P pass discount, corner-total st H, bottom-rows st H, top-rows st H);
+    words = omega (arith, quoted-length s discount (drawing st), ap (quoteCount discount) (routes-are st H), all-words st H s, bottom-rows st H, top-rows st H);
   }
 
 -- the words of a list's sheet
@@ -89,6 +104,7 @@ module _ (options : Options) (list : List ℕ) (pass : Clear (callChecks options
         sizes =
             subst (λ (d : Drawing). Sizes s (st .parts) (length (st .cables)) (drawing st) d sheet) (sym read-off)
             (sizes st orderable s spreads fit (options .discount));
+        exactly = exact st orderable s spreads fit (options .discount);
         bends =
             subst (λ (d : Drawing). Bends (length (st .cables)) d) (sym read-off)
             (bends st orderable s spreads (list-once list (list-clear options list (checked-given options list pass))));

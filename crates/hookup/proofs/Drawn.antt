@@ -1,5 +1,5 @@
--- The drawing of a station that was not sent back: it is the layout of its cables in ranks, under the parts' own numbers, and has its meetings,
--- sizes, crossings, lengths and prices, in every spacing. Assumes nothing.
+-- The drawing of a station that was not sent back: it is the layout of its cables in ranks, under the parts' own numbers, and has its
+-- meetings, sizes, crossings, lengths and prices, in every spacing. Assumes nothing.
 use Prim.Native.Nat.{ℕ, _+_, _*_, _<_, _≤_, _^_, max}
 use native.Mathlib.Omega.{arith}
 use mathlib.Core.Path.{_≡_, refl, sym, ap, subst, subst₂, _∙_}
@@ -13,12 +13,13 @@ use Rattle.prices.specs.declared.Discount.{Discount}
 use Rattle.prices.specs.declared.Discount.the-variants.{NotGiven, Given}
 use Rattle.prices.specs.Quoted.{Quoted}
 use Rattle.lists.specs.declared.Found.the-variants.{At, Nothing}
-use Rattle.lists.specs.Select.{tabulate}
+use Rattle.lists.specs.Select.{tabulate, count}
 use Rattle.lists.proofs.Select.{getD-map, getD-tabulate, length-tabulate}
 use Rattle.station.specs.Station.{Station, noCable}
 use Rattle.order.specs.Order.{order, rankIn}
 use Rattle.order.specs.StOrder.{StOrdering}
-use Rattle.order.specs.Graph.{StGraph, size, Ranked, EndsOnce}
+use Rattle.order.specs.Graph.{StGraph, size, EndsOnce}
+use Rattle.order.specs.RankedGraphs.{Ranked}
 use Rattle.order.specs.Orientation.{graphOf}
 use Rattle.order.proofs.Bipolar.{Orderable}
 use Rattle.order.proofs.StOrder.{order-ordering}
@@ -31,7 +32,7 @@ use Rattle.drawing.specs.Lengths.{lineLength, cableLengths, mostLength}
 use Rattle.drawing.specs.Spacing.{spaced, onGrid, tooLarge, check14}
 use Rattle.drawing.specs.Sheet.{sheetWords, quotedWords}
 use Rattle.drawing.specs.Reading.{Endpoints, noEndpoints, lengthsIn, quoteIn}
-use Rattle.drawing.specs.Counts.{cornerCount}
+use Rattle.drawing.specs.Counts.{cornerCount, isCorner}
 use Rattle.drawing.specs.Sizes.{Sizes, Bends}
 use Rattle.drawing.specs.Measured.{Measured}
 use Rattle.drawing.proofs.LengthWords.{LengthsFit}
@@ -150,8 +151,8 @@ module _ (st : Station) where
         subst (λ (d : Drawing). LengthsFit (cableLengths d)) (sym is-renumbered)
         (subst LengthsFit (sym (lengths-renumbered (order st) (layout (graphOf st)) names (laid.meets (graphOf st) R))) (laid.lengths-fit (graphOf st) R two most))
 
-    lines : length (drawing st .routes) ≡ length (st .cables)
-    lines = joins .routes-count ∙ length-map (st .cables) (endsBy (order st))
+    pub routes-are : length (drawing st .routes) ≡ length (st .cables)
+    routes-are = joins .routes-count ∙ length-map (st .cables) (endsBy (order st))
 
     -- 'The sheet has .. 2m - 2n + 2 + d + e corners and 3m - n + 3 + d + e words.'
     pub corner-total : cornerCount (drawing st .routes) + 2 * st .parts ≡ 2 * length (st .cables) + 2 + bottomRows (graphOf st) + topRows (graphOf st)
@@ -197,7 +198,7 @@ module _ (st : Station) where
         )
 
     few-cables : length (drawing st .routes) ≤ mostCables
-    few-cables = omega (arith, lines, graph-size st, graph-parts st, cables-le (graphOf st) R, H .wired .most)
+    few-cables = omega (arith, routes-are, graph-size st, graph-parts st, cables-le (graphOf st) R, H .wired .most)
 
     small : st .parts ≤ mostParts
     small = H .wired .most
@@ -212,13 +213,13 @@ module _ (st : Station) where
       crossings-there = crossings-spaced s grows (drawing st) meets
 
       pub bends : EndsOnce (graphOf st) → Bends (length (st .cables)) (spaced s (drawing st))
-      bends once = bends-spaced s (drawing st) (length (st .cables)) lines (grid-bends once)
+      bends once = bends-spaced s (drawing st) (length (st .cables)) routes-are (grid-bends once)
 
       -- 14 looks at the head alone
       pub head-alone :
           let d = spaced s (drawing st) in check14 d ≡ cond (tooLarge (max (d .width) (d .height))) (At (max (d .width) (d .height))) Nothing
       head-alone =
-          head-decides (spaced s (drawing st)) (fields-within s grows (drawing st) meets (st .parts) (length (st .cables)) (joins .parts-count) lines grid-sizes)
+          head-decides (spaced s (drawing st)) (fields-within s grows (drawing st) meets (st .parts) (length (st .cables)) (joins .parts-count) routes-are grid-sizes)
 
       -- What the words show, whatever discount is given, where the numbers fit
 
@@ -236,17 +237,19 @@ module _ (st : Station) where
         unfolding readBy
         reads = drawing-read s (st .parts) (endsOf st) (drawing st) fits P meets lengths-fit small few-cables length-most discount
 
+        pub sheet-corners : count isCorner (quotedWords s discount (drawing st)) ≡ cornerCount (drawing st .routes)
+        sheet-corners = quoted-corners s (st .parts) (endsOf st) (drawing st) fits P meets lengths-fit small few-cables length-most discount
+
         pub sizes : Sizes s (st .parts) (length (st .cables)) (drawing st) (spaced s (drawing st)) (quotedWords s discount (drawing st))
         sizes =
-            sizes-spaced s grows (drawing st) meets (st .parts) (length (st .cables)) (joins .parts-count) lines grid-sizes _
-            (quoted-corners s (st .parts) (endsOf st) (drawing st) fits P meets lengths-fit small few-cables length-most discount)
+            sizes-spaced s grows (drawing st) meets (st .parts) (length (st .cables)) (joins .parts-count) routes-are grid-sizes _ sheet-corners
 
         -- the lengths on the sheet
         pub measured :
             Measured s (st .parts) (length (st .cables)) (drawing st) (spaced s (drawing st))
             (lengthsIn (st .parts) (length (st .cables)) (quotedWords s discount (drawing st)))
         measured =
-            subst (λ (m : ℕ). Measured s (st .parts) m (drawing st) (spaced s (drawing st)) (lengthsIn (st .parts) m (quotedWords s discount (drawing st)))) lines
+            subst (λ (m : ℕ). Measured s (st .parts) m (drawing st) (spaced s (drawing st)) (lengthsIn (st .parts) m (quotedWords s discount (drawing st)))) routes-are
             (lengths-read s (st .parts) (endsOf st) (drawing st) fits P meets lengths-fit small few-cables length-most discount)
 
         -- and the prices
@@ -256,7 +259,7 @@ module _ (st : Station) where
         quote =
             subst
             (λ (m : ℕ).
-            Quoted discount m (lengthsIn (st .parts) m (quotedWords s discount (drawing st))) (quoteIn (st .parts) m (quotedWords s discount (drawing st)))) lines
+            Quoted discount m (lengthsIn (st .parts) m (quotedWords s discount (drawing st))) (quoteIn (st .parts) m (quotedWords s discount (drawing st)))) routes-are
             (quote-read s (st .parts) (endsOf st) (drawing st) fits P meets lengths-fit small few-cables length-most discount)
 
         pub all-fit : (w : ℕ) → List·Memᴰ w (quotedWords s discount (drawing st)) → w < 2 ^ 32
@@ -270,7 +273,7 @@ module _ (st : Station) where
         let S = grid-sizes in
         let w : d .width ≡ drawing st .width = ap (λ (z : Drawing). z .width) (unspaced (drawing st)) in
         let h : d .height ≡ drawing st .height = ap (λ (z : Drawing). z .height) (unspaced (drawing st)) in
-        let b : max (d .width) (d .height) ≤ mostField = omega (arith, S .width, S .height, small, few-cables, lines) in
+        let b : max (d .width) (d .height) ≤ mostField = omega (arith, S .width, S .height, small, few-cables, routes-are) in
         head-alone onGrid (passed-13 onGrid grid-passes) ∙ rw (le-ltb mostField (max (d .width) (d .height)) b) refl
 
     -- four cables at a part at most

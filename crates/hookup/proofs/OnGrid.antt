@@ -1,5 +1,5 @@
--- 'With pitches 1 and margin 0 .. the sheet is the one known so far' (2026-06): on the grid 13 and 14 never apply, and the words are the drawing's own, its lengths, and what its cables
--- cost where a discount is given. Assumes nothing.
+-- 'With pitches 1 and margin 0 .. the sheet is the one known so far' (2026-06): on the grid 13 and 14 never apply, and the words are the
+-- drawing's own, its lengths, and what its cables cost where a discount is given. Assumes nothing.
 use Prim.Native.Nat.{ℕ}
 use mathlib.Core.Path.{_≡_, refl, sym, ap, ap₂, _∙_}
 use mathlib.Core.List.{List, [], _∷_, _++_}

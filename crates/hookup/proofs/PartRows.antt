@@ -43,7 +43,7 @@ use Rattle.layout.specs.Points.{bottomRows, topRows, row, partSpot, rankSpot}
 use Rattle.layout.specs.Layout.{drawnIn, layout}
 use Rattle.layout.proofs.Drawn as laid
 use Rattle.hookup.specs.Drawing.{drawing}
-use Rattle.hookup.specs.Demand.{rowsBelow, rowOf}
+use Rattle.hookup.specs.Demand.{rowsBelow, rowsAbove, rowOf}
 use Rattle.hookup.proofs.Drawn.{is-renumbered, joins, spot-fits}
 
 -- the word of part p is word 1 + p, whatever lies behind the drawing
@@ -197,8 +197,8 @@ module _ (st : Station) (H : Orderable st) where
       (λ i h. least (one i) (other i) _ (lower-is st i h)) (λ i h. least-back (one i) (other i) _ (lower-is st i h)))
 
   -- and all of t come in: 'and e the same for t'
-  pub top-rows : topRows (graphOf st) ≡ oneIf (eqb (degree (st .cables) (st .analyser)) 4)
-  unfolding topRows
+  pub top-rows : topRows (graphOf st) ≡ rowsAbove st
+  unfolding topRows rowsAbove
   top-rows =
       let r : ℕ = graphOf st .parts - 1 in
       ap (λ (k : ℕ). oneIf (eqb k 4))
@@ -210,7 +210,7 @@ module _ (st : Station) (H : Orderable st) where
       (omega (arith, rank-below st H _ (w .0), graph-parts st)) (omega (arith, rank-below st H _ (w .1), graph-parts st))))
 
   -- 'n - 1 + d + e as height'
-  pub height-is : drawing st .height ≡ st .parts - 1 + rowsBelow st + oneIf (eqb (degree (st .cables) (st .analyser)) 4)
+  pub height-is : drawing st .height ≡ st .parts - 1 + rowsBelow st + rowsAbove st
   unfolding renumbered layout drawnIn
   height-is =
       omega (arith, ap (λ (d : Drawing). d .height) (is-renumbered st), graph-parts st, bottom-rows, top-rows)

@@ -1,5 +1,5 @@
--- Check 14 on the longest ring (2026-06): 256 parts, each joined to the next, and the last to the first. That it passes checks 1 to 8 is computed; 9 and 10 rest on paths along the
--- ring, and 14 on the head of its drawing. Assumes nothing.
+-- Check 14 on the longest ring (2026-06): 256 parts, each joined to the next, and the last to the first. That it passes checks 1 to 8 is
+-- computed; 9 and 10 rest on paths along the ring, and 14 on the head of its drawing. Assumes nothing.
 use Prim.Native.Nat.{ℕ, zero, suc, _+_, _-_, _*_, _%_, _<_, _≤_, max}
 use native.Mathlib.Omega.{arith}
 use native.Mathlib.Decide.{ℕ-discrete, decLt}
@@ -8,14 +8,13 @@ use mathlib.Core.Bool.{cond}
 use mathlib.Core.Logic.{inl}
 use mathlib.Core.List.{List, _∷_}
 use lib.ListN.{length, getD, length-map}
-use lib.Dec.{eqb}
 use Rattle.lists.specs.declared.Found.the-variants.{At, Nothing}
-use Rattle.lists.specs.Select.{tabulate, oneIf}
+use Rattle.lists.specs.Select.{tabulate}
 use Rattle.lists.proofs.Select.{getD-map, getD-tabulate, length-tabulate}
 use Rattle.words.specs.Words.{cable, cableWord}
 use Rattle.words.proofs.Words.{fields-apart}
 use Rattle.prices.proofs.Discounts.{not-given}
-use Rattle.station.specs.Station.{Cable, Station, noCable, cableOf, stationOf, degree}
+use Rattle.station.specs.Station.{Cable, Station, noCable, cableOf, stationOf}
 use Rattle.checks.specs.Checks.{Clear}
 use Rattle.station.specs.Checks.{listChecks}
 use Rattle.station.proofs.Computing.{station-computing}
@@ -35,7 +34,7 @@ use Rattle.hookup.specs.declared.Options.{Options}
 use Rattle.hookup.specs.Options.{plain, spacedBy}
 use Rattle.hookup.specs.Checks.{givenChecks}
 use Rattle.hookup.specs.Drawing.{drawing}
-use Rattle.hookup.specs.Demand.{rowsBelow}
+use Rattle.hookup.specs.Demand.{rowsBelow, rowsAbove}
 use Rattle.hookup.specs.Outcome.{outcome}
 use Rattle.checks.specs.Outcome.{sentBack, written}
 use Rattle.order.proofs.AllChecks.{all-clear}
@@ -139,8 +138,8 @@ source-cables : rowsBelow st ≡ 0
 unfolding station-computing rowsBelow
 source-cables = refl
 
-analyser-cables : oneIf (eqb (degree (st .cables) (st .analyser)) 4) ≡ 0
-unfolding station-computing
+analyser-cables : rowsAbove st ≡ 0
+unfolding station-computing rowsAbove
 analyser-cables = refl
 
 width-1 : drawing st .width ≡ 1

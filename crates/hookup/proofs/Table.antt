@@ -1,5 +1,5 @@
--- The eleven refusals, the boundaries, and stations A to D of document 01, with the lengths of request 2026-01, the crossings of 2026-02, the
--- corners of 2026-04, the prices of 2026-05 and the spacing of 2026-06, as the definitions give them. Assumes nothing.
+-- The eleven refusals, the boundaries, and stations A to D of document 01, with the lengths of request 2026-01, the crossings of 2026-02,
+-- the corners of 2026-04, the prices of 2026-05 and the spacing of 2026-06, as the definitions give them. Assumes nothing.
 use Prim.Native.Nat.{ℕ}
 use mathlib.Core.Path.{_≡_, refl}
 use mathlib.Core.Bool.{true, false}
@@ -145,7 +145,8 @@ pub record Table : Type 0 where
       (0x40006006 ∷ 0x50002001 ∷ 0x50005002 ∷ 0x50001003 ∷ 0x50002004 ∷ 0x50003005 ∷ 0x60000002 ∷ 0x70002000 ∷ 0x70005000 ∷ 0x60001001 ∷ 0x70001001 ∷ 0x60002000 ∷ 0x60003001 ∷ 0x70003001 ∷ 0x60004002 ∷ 0x70004002 ∷ 0x70004003 ∷ 0x60005001 ∷ 0x70005004 ∷ 0x60006002 ∷ 0x70006002 ∷ 0x70006005 ∷ 0x60007002 ∷ 0x70000003 ∷ 0x70000004 ∷ 0x60008001 ∷ 0x70001005 ∷ 0x60009002 ∷ 0x70002006 ∷ 0x70003006 ∷ 0x80000006 ∷ 0x80001003 ∷ 0x80002003 ∷ 0x80003005 ∷ 0x80004005 ∷ 0x80005005 ∷ 0x80006007 ∷ 0x80007004 ∷ 0x80008004 ∷ 0x80009004 ∷ 0xa000002e ∷ [])
       5
   d-short : outcome plain stationD 40 ≡ sentBack 11 41
-  -- 2026-05: the triangle's runs, and the ready lengths that they take; the longest ready length; 'm + 1 words' more, 'and check 11 measures it'
+  -- 2026-05: the triangle's runs, and the ready lengths that they take; the longest ready length; 'm + 1 words' more, 'and check 11
+  -- measures it'
   a-lengths : cableLengths (drawingOfList triangle) ≡ 1 ∷ 1 ∷ 4 ∷ []
   a-taken : map readyLength (cableLengths (drawingOfList triangle)) ≡ 2 ∷ 2 ∷ 4 ∷ []
   price-2048 : cablePrice 0 2048 ≡ 72580
@@ -158,7 +159,8 @@ pub record Table : Type 0 where
   refusal-12 : outcome (quoted 10001) triangle room ≡ sentBack 12 10001
   refusal-12-first : outcome (quoted 10001) [] 0 ≡ sentBack 12 10001
   discount-10000 : outcome (quoted 10000) [] 0 ≡ sentBack 1 0
-  -- D's lengths 6, 3, 3, 5, 5, 5, 7, 4, 4 and 4 take 6, 3, 3, 6, 6, 6, 8, 4, 4 and 4 steps; a discount of 10 percent leaves half a cent of 1,005 cents
+  -- D's lengths 6, 3, 3, 5, 5, 5, 7, 4, 4 and 4 take 6, 3, 3, 6, 6, 6, 8, 4, 4 and 4 steps; a discount of 10 percent leaves half a cent of
+  -- 1,005 cents
   d-quoted :
       cablePrices 1000 (cableLengths (drawingOfList stationD)) ≡ 999 ∷ 905 ∷ 905 ∷ 999 ∷ 999 ∷ 999 ∷ 1062 ∷ 936 ∷ 936 ∷ 936 ∷ []
   -- 2026-06: the triangle with column pitch 2, row pitch 3 and margin 10; run lengths 'and the bill still count grid steps'
@@ -182,7 +184,8 @@ pub record Table : Type 0 where
   refusal-13-first : outcome (spacedBy 1 0 0 plain) [] 0 ≡ sentBack 13 1
   refusal-13-last : outcome (spacedBy 0 0 0 (quoted 10001)) [] 0 ≡ sentBack 12 10001
   spacing-passes : outcome (spacedBy 64 64 255 plain) [] 0 ≡ sentBack 1 0
-  -- 14: 'a coordinate or head field above 4,095 .., its place the largest such number', before 11: the ring of 256 parts is 255 high, and 16 is the largest row pitch that fits
+  -- 14: 'a coordinate or head field above 4,095 .., its place the largest such number', before 11: the ring of 256 parts is 255 high, and
+  -- 16 is the largest row pitch that fits
   refusal-14 : (room : ℕ) → outcome (spacedBy 1 64 0 plain) ring room ≡ sentBack 14 16320
   refusal-14-least : (room : ℕ) → outcome (spacedBy 1 17 0 plain) ring room ≡ sentBack 14 4335
   ring-fits : outcome (spacedBy 1 16 0 plain) ring 772 ≡ written (sheetOf (spacedBy 1 16 0 plain) ring) (crossings (drawingOfList ring))

@@ -1,5 +1,6 @@
--- Demand 3, the order of demand 2 and the crossings of 2026-02 hold of the thirteen words for the triangle (document 01's nine, and 2026-01's four), of the seventeen with a
--- discount (2026-05), and of those for print (2026-06): the theorems at one station. Assumes nothing.
+-- Demand 3, the order of demand 2 and the crossings of 2026-02 hold of the thirteen words for the triangle (document 01's nine, and
+-- 2026-01's four), of the seventeen with a discount (2026-05), and of those for print (2026-06): the theorems at one station. Assumes
+-- nothing.
 use Prim.Native.Nat.{ℕ}
 use mathlib.Core.Path.{_≡_, refl, _∙_, subst, subst₂}
 use mathlib.Core.List.{List, [], _∷_, _++_}

@@ -25,8 +25,8 @@ abbrev pub reply : Outcome → Reply
 reply (written words crossings) = counts (length words) crossings
 reply (sentBack check place) = refusal check place
 
--- what is demanded of the words that a sheet leaves in the output: demand 3, of demand 2 that the parts stand in the smallest st-ordering, and that
--- the crossings are those that the words show
+-- what is demanded of the words that a sheet leaves in the output: demand 3, of demand 2 that the parts stand in the smallest st-ordering,
+-- and that the crossings are those that the words show
 abbrev pub Demanded : Answer → Options → List ℕ → List ℕ → Type 0
 Demanded (Sheet words crossings) options list output =
     Demand3 options list (take words output) × Ordered options list (take words output) × Crossed list (take words output) crossings

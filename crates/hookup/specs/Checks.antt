@@ -1,4 +1,5 @@
--- The checks of a call, in their order: what the caller gives is 'tested before the list' (2026-05), what is drawn 'after 10 and before 11' (2026-06). Assumes nothing.
+-- The checks of a call, in their order: what the caller gives is 'tested before the list' (2026-05), what is drawn 'after 10 and before 11'
+-- (2026-06). Assumes nothing.
 use mathlib.Core.List.{List, [], _∷_, _++_}
 use Rattle.prices.specs.Discounts.{check12}
 use Rattle.station.specs.Station.{stationOf}

@@ -1,4 +1,5 @@
--- Demands 2 and 3, and requests 2026-01, 2026-02 and 2026-04 to 2026-06, as claims about the words of a list and the words of its sheet. Assumes nothing.
+-- Demands 2 and 3, and requests 2026-01, 2026-02 and 2026-04 to 2026-06, as claims about the words of a list and the words of its sheet.
+-- Assumes nothing.
 use Prim.Native.Nat.{ℕ, _+_, _<_}
 use mathlib.Core.Path.{_≡_}
 use mathlib.Core.Logic.{_⊎_}
@@ -14,14 +15,15 @@ use Rattle.drawing.specs.Drawing.{Drawing, routeAt, Meets, crossings}
 use Rattle.drawing.specs.Spacing.{rowAt, spaced}
 use Rattle.drawing.specs.Sheet.{quotedWords}
 use Rattle.drawing.specs.Reading.{partsByRow, lengthsIn, quoteIn}
-use Rattle.drawing.specs.Sizes.{Sizes, Bends}
+use Rattle.drawing.specs.Sizes.{Sizes, Exactly, Bends}
 use Rattle.drawing.specs.Measured.{Measured}
 use Rattle.hookup.specs.declared.Options.{Options}
 use Rattle.hookup.specs.Reading.{drawingOf}
 
 -- the words are exactly those of a drawing of this station on the grid, under what the caller gave
 pub record Form (options : Options) (st : Station) (d : Drawing) (sheet : List ℕ) : Type 0 where
-  -- head, part, cable, corner, length, total and price words with their kinds, line numbers, counts of corners and no spare bit, and no word more
+  -- head, part, cable, corner, length, total and price words with their kinds, line numbers, counts of corners and no spare bit, and no
+  -- word more
   pub words : sheet ≡ quotedWords (options .spacing) (options .discount) d
   pub parts : length (d .parts) ≡ st .parts
   pub cables : length (d .routes) ≡ length (st .cables)
@@ -31,15 +33,28 @@ pub record Form (options : Options) (st : Station) (d : Drawing) (sheet : List �
       → ((routeAt d i .first ≡ getD (st .cables) i noCable .one) × (routeAt d i .last ≡ getD (st .cables) i noCable .other))
       ⊎ ((routeAt d i .first ≡ getD (st .cables) i noCable .other) × (routeAt d i .last ≡ getD (st .cables) i noCable .one))
 
+-- 'Let d be 1 if s has four cables and 0 otherwise'
+unfoldable pub rowsBelow : Station → ℕ
+rowsBelow st = oneIf (eqb (degree (st .cables) (st .source)) 4)
+
+-- 'and e the same for t'
+unfoldable pub rowsAbove : Station → ℕ
+rowsAbove st = oneIf (eqb (degree (st .cables) (st .analyser)) 4)
+
 -- demand 3, of what the caller gave, a list's words and a sheet's words
 pub record Demand3 (options : Options) (list sheet : List ℕ) : Type 0 where
-  -- 2026-06: what the sheet shows is a drawing on the grid, spaced: 'Every x becomes margin + x × column pitch, y likewise with the row pitch'
+  -- 2026-06: what the sheet shows is a drawing on the grid, spaced: 'Every x becomes margin + x × column pitch, y likewise with the row
+  -- pitch'
   pub grid : Drawing
   pub spacing : drawingOf list sheet ≡ spaced (options .spacing) grid
   pub form : Form options (stationOf list) grid sheet
   -- 'What holds between two cables', between cable and part and of a cable with itself, of the words in every spacing
   pub meetings : Meets (drawingOf list sheet)
   pub sizes : Sizes (options .spacing) (stationOf list .parts) (length (stationOf list .cables)) grid (drawingOf list sheet) sheet
+  -- the same as equations, d and e by the cables of s and of t
+  pub exactly :
+      Exactly (options .discount) (stationOf list .parts) (length (stationOf list .cables))
+      (rowsBelow (stationOf list)) (rowsAbove (stationOf list)) grid sheet
   -- 2026-04: 'no cable has more than two corners'
   pub bends : Bends (length (stationOf list .cables)) (drawingOf list sheet)
   -- 2026-01: the words 'after the last cable's corners' are the lengths of the lines that the sheet shows, in grid steps, and their total
@@ -51,10 +66,6 @@ pub record Demand3 (options : Options) (list sheet : List ℕ) : Type 0 where
       Quoted (options .discount) (length (stationOf list .cables))
       (lengthsIn (stationOf list .parts) (length (stationOf list .cables)) sheet)
       (quoteIn (stationOf list .parts) (length (stationOf list .cables)) sheet)
-
--- 'Let d be 1 if s has four cables and 0 otherwise'
-unfoldable pub rowsBelow : Station → ℕ
-rowsBelow st = oneIf (eqb (degree (st .cables) (st .source)) 4)
 
 -- the row of part p on a sheet
 unfoldable pub rowOf : List ℕ → ℕ → ℕ
@@ -69,6 +80,7 @@ pub record Ordered (options : Options) (list sheet : List ℕ) : Type 0 where
       (k : ℕ) → k < stationOf list .parts
       → rowOf sheet (getD (partsByRow (stationOf list .parts) sheet) k 0) ≡ rowAt (options .spacing) (rowsBelow (stationOf list) + k)
 
--- 2026-02: the count returned with a sheet is that of 'all pairs of cables whose lines cross, those that share a part too', in the drawing that its words show
+-- 2026-02: the count returned with a sheet is that of 'all pairs of cables whose lines cross, those that share a part too', in the drawing
+-- that its words show
 pub record Crossed (list sheet : List ℕ) (count : ℕ) : Type 0 where
   pub pairs : count ≡ crossings (drawingOf list sheet)

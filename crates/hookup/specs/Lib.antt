@@ -1,4 +1,5 @@
--- Document 01 as a whole, with requests 2026-01, 2026-02 and 2026-04 to 2026-06: what a caller gives, the checks, the drawing of a station, the answer, and the demands. Assumes nothing.
+-- Document 01 as a whole, with requests 2026-01, 2026-02 and 2026-04 to 2026-06: what a caller gives, the checks, the drawing of a station,
+-- the answer, and the demands. Assumes nothing.
 pub mod Options
 pub mod Drawing
 pub mod Checks

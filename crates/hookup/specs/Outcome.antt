@@ -1,4 +1,5 @@
--- Document 01 at the top: for what the caller gives, a list and a length of output, the sheet with its counts, or the refusal with its number and place. Assumes nothing.
+-- Document 01 at the top: for what the caller gives, a list and a length of output, the sheet with its counts, or the refusal with its
+-- number and place. Assumes nothing.
 use Prim.Native.Nat.{ℕ}
 use mathlib.Core.List.{List}
 use Rattle.checks.specs.Checks.{firstRefusal}
@@ -14,7 +15,8 @@ use Rattle.hookup.specs.Drawing.{drawing}
 abbrev pub Outcome : Type 0
 Outcome = call.Outcome ℕ ℕ
 
--- 11: 'output shorter than the sheet'; 2026-05: the bill is at its end, 'and check 11 measures it'; 2026-06: the grid's drawing, as it is spaced
+-- 11: 'output shorter than the sheet'; 2026-05: the bill is at its end, 'and check 11 measures it'; 2026-06: the grid's drawing, as it is
+-- spaced
 unfoldable pub sheetIn : Options → Drawing → ℕ → Outcome
 sheetIn options d room = call.fitted (quotedWords (options .spacing) (options .discount) d) (crossings d) room
 

@@ -1,6 +1,6 @@
--- The bottom and the top connection as the code finds them: where a rank has four cables the one set apart is put last, where it has fewer the sorted
--- lines are the outgoing or the incoming cables as they stand. The fourth of an end's cables is its connection, a line exactly where there are four.
--- Assumes nothing.
+-- The bottom and the top connection as the code finds them: where a rank has four cables the one set apart is put last, where it has fewer
+-- the sorted lines are the outgoing or the incoming cables as they stand. The fourth of an end's cables is its connection, a line exactly
+-- where there are four. Assumes nothing.
 use Prim.Native.Nat.{ℕ, _-_, _<_, _≤_}
 use native.Mathlib.Omega.{arith}
 use native.Mathlib.Decide.{decLt, ℕ-discrete}
@@ -17,7 +17,8 @@ use Rattle.lists.proofs.Select.{getD-indexOf}
 use Rattle.lists.proofs.Sort.{sortBy-e}
 use Rattle.lists.proofs.Lastly.{lastly-absent}
 use Rattle.words.specs.declared.Rank.{Rank}
-use Rattle.order.specs.Graph.{StGraph, size, lower, upper, linesAt, Ranked}
+use Rattle.order.specs.Graph.{StGraph, size, lower, upper, linesAt}
+use Rattle.order.specs.RankedGraphs.{Ranked}
 use Rattle.ordering.specs.Numbers.{rankNumbers}
 use Rattle.ranking.proofs.LineRanks.{rankAt}
 use Rattle.layout.specs.Columns.{lineBetween, bottomLine, topLine, byRank, byColumn, outgoing, incoming}

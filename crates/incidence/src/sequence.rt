@@ -1,4 +1,5 @@
-// The outgoing and the incoming cables of one rank in their sequence: the bottom or the top connection, where there is one, behind the others.
+// The outgoing and the incoming cables of one rank in their sequence: the bottom or the top connection, where there is one, behind the
+// others.
 use crate::incident::Incident;
 use crate::incident::by_column;
 use crate::incident::by_rank;
@@ -61,8 +62,8 @@ fn set_last(f: Incident, line: usize) -> Incident
     f
 }
 
-// The outgoing cables of rank k. Only s may have four: 'the one to the second-ranked part leaves downward', and 'the other three go left, own, right by
-// rising rank'.
+// The outgoing cables of rank k. Only s may have four: 'the one to the second-ranked part leaves downward', and 'the other three go left,
+// own, right by rising rank'.
 pub fn outgoing(graph: Graph, k: Rank) -> Incident
     requires { ⌜ GraphFits graph ⌝ }
     ensures { λ r. ⌜ Holds (upper (graphIn graph)) r (outgoing (graphIn graph) (k .0)) ⌝ }
@@ -74,8 +75,8 @@ pub fn outgoing(graph: Graph, k: Rank) -> Incident
     set_last(f, line_between(graph, Rank::of(0), Rank::of(1)))
 }
 
-// The incoming cables of rank k. Only t may have four: 'the cable from the last-ranked part but one climbs over the top', and 'the other three .. come in
-// left, below and right'.
+// The incoming cables of rank k. Only t may have four: 'the cable from the last-ranked part but one climbs over the top', and 'the other
+// three .. come in left, below and right'.
 pub fn incoming(graph: Graph, cables: [u16; MOST_CABLES], k: Rank) -> Incident
     requires { ⌜ GraphFits graph ⌝ }
     ensures { λ r. ⌜ Holds (at (take (graph .cables) cables)) r (incoming (graphIn graph) (take (graph .cables) cables) (k .0)) ⌝ }

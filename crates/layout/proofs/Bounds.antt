@@ -1,10 +1,12 @@
--- Every column that is stored once k ranks stand is at most 4 k, since a rank adds at most three: the code's sums fit 16 bits. Assumes nothing.
+-- Every column that is stored once k ranks stand is at most 4 k, since a rank adds at most three: the code's sums fit 16 bits. Assumes
+-- nothing.
 use Prim.Native.Nat.{ℕ, zero, suc, _+_, _-_, _*_, _/_, _<_, _≤_}
 use native.Mathlib.Omega.{arith}
 use native.Mathlib.Decide.{decLt, ℕ-discrete}
 use mathlib.Core.Path.{_≡_, ap}
 use lib.ListN.{List·getD-eq-default}
-use Rattle.order.specs.Graph.{StGraph, size, lower, Ranked}
+use Rattle.order.specs.Graph.{StGraph, size, lower}
+use Rattle.order.specs.RankedGraphs.{Ranked}
 use Rattle.layout.specs.Columns.{columns}
 use Rattle.layout.proofs.Moved.{moved-le}
 use Rattle.layout.proofs.Step.{cable, part, width, ins, inAt, takenColumn, lefts, rights, cable-start, width-start, cable-opened, cable-kept, length-cables, length-parts, part-kept, part-opened, width-suc, outPlace-below, takenColumn-none, degree, ports, takenColumn-comes}

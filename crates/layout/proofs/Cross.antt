@@ -1,4 +1,5 @@
--- On the lines of a layout, the test whether two of them cross agrees with a test on five numbers: lane, lanes and columns. Assumes nothing.
+-- On the lines of a layout, the test whether two of them cross agrees with a test on five numbers: lane, lanes and columns. Assumes
+-- nothing.
 use Prim.Native.Nat.{ℕ, _<_, min, max}
 use mathlib.Core.Path.{_≡_, sym}
 use mathlib.Core.Bool.{true, _&&_}

@@ -5,7 +5,8 @@ use native.Mathlib.Decide.{decLt}
 use mathlib.Core.Path.{_≡_}
 use mathlib.Core.Logic.{_↔_}
 use lib.ListN.{length}
-use Rattle.order.specs.Graph.{StGraph, Ranked}
+use Rattle.order.specs.Graph.{StGraph}
+use Rattle.order.specs.RankedGraphs.{Ranked}
 use Rattle.layout.specs.Ports.{inPorts, outPorts, Depicted}
 use Rattle.layout.proofs.Ports.{all-in, all-out}
 use Rattle.layout.proofs.Step.{outs, ins, inAt-comes, degree}

@@ -1,4 +1,5 @@
--- The layout of an st-graph as a drawing: its parts and routes, how they meet in every spacing and cross, its sizes and its words. Assumes nothing.
+-- The layout of an st-graph as a drawing: its parts and routes, how they meet in every spacing and cross, its sizes and its words. Assumes
+-- nothing.
 use Prim.Native.Nat.{ℕ, zero, suc, _+_, _-_, _*_, _<_, _≤_}
 use native.Mathlib.Omega.{arith}
 use mathlib.Core.Path.{_≡_, refl, sym, ap, ap₂, subst, subst₂, _∙_}
@@ -12,7 +13,8 @@ use Rattle.lists.proofs.Places.{mem-place, first-between-last}
 use Rattle.lists.proofs.Maps.{map-tabulate}
 use Rattle.lists.proofs.Sums.{sum-le}
 use Rattle.lists.proofs.Increasing.{increasing-le}
-use Rattle.order.specs.Graph.{StGraph, size, lower, upper, Ranked, EndsOnce}
+use Rattle.order.specs.Graph.{StGraph, size, lower, upper, EndsOnce}
+use Rattle.order.specs.RankedGraphs.{Ranked}
 use Rattle.order.proofs.Graphs.{lower-inside, cables-le}
 use Rattle.drawing.specs.declared.spacing.Spacing.{Spacing}
 use Rattle.geometry.specs.Spots.{Spot, origin}

@@ -1,5 +1,5 @@
--- The lines at a rank, the lowest line from one rank to another, and the lines at the bottom and at the top connection: the laws of the definitions that
--- name these, from which all else follows. Assumes nothing.
+-- The lines at a rank, the lowest line from one rank to another, and the lines at the bottom and at the top connection: the laws of the
+-- definitions that name these, from which all else follows. Assumes nothing.
 use Prim.Native.Nat.{ℕ, _-_, _<_}
 use native.Mathlib.Omega.{arith}
 use mathlib.Core.Path.{_≡_, refl, sym, ap, _∙_}
@@ -15,7 +15,8 @@ use Rattle.lists.specs.Select.{range}
 use Rattle.lists.proofs.Bools.{and-e, and-i}
 use Rattle.lists.proofs.Seek.{First, None, seek-cases}
 use Rattle.lists.proofs.Select.{getD-mem, filter-e, filter-i, range-e, range-i, Distinct, distinct-range, distinct-filter}
-use Rattle.order.specs.Graph.{StGraph, size, lower, upper, linesAt, Ranked}
+use Rattle.order.specs.Graph.{StGraph, size, lower, upper, linesAt}
+use Rattle.order.specs.RankedGraphs.{Ranked}
 use Rattle.order.proofs.Graphs.{second-joined, last-joined}
 use Rattle.layout.specs.Columns.{lineBetween, bottomLine, topLine}
 

@@ -1,5 +1,5 @@
--- The two extra rows and the cables that turn in them: there is a bottom connection exactly if s has four cables, and only one; the same for the
--- top connection and t. Assumes nothing.
+-- The two extra rows and the cables that turn in them: there is a bottom connection exactly if s has four cables, and only one; the same
+-- for the top connection and t. Assumes nothing.
 use Prim.Native.Nat.{ℕ, _-_, _<_, _≤_}
 use mathlib.Core.Path.{_≡_, refl, sym, _∙_}
 use mathlib.Core.Bool.{Bool, true, false, cond}
@@ -13,7 +13,8 @@ use Rattle.lists.specs.Select.{range, count, indexOf, oneIf}
 use Rattle.lists.proofs.Select.{indexOf-below, indexOf-one}
 use Rattle.lists.proofs.Tests.{oneIf-le}
 use Rattle.lists.proofs.Sums.{count-none, count-one}
-use Rattle.order.specs.Graph.{StGraph, size, lower, upper, linesAt, Ranked}
+use Rattle.order.specs.Graph.{StGraph, size, lower, upper, linesAt}
+use Rattle.order.specs.RankedGraphs.{Ranked}
 use Rattle.layout.specs.Columns.{bottomLine, topLine, outgoing, incoming}
 use Rattle.layout.specs.Points.{bottomRows, topRows}
 use Rattle.layout.proofs.EndLines.{bottom-ends, bottom-some, top-ends, top-some}
@@ -62,7 +63,8 @@ module _ (G : StGraph) (H : Ranked G) where
   unfolding topRows
   top-count = count-four (size G) (topLine G) (length (linesAt (size G) (upper G) (G .parts - 1))) (top-some G H) (λ h. top-ends G h .0)
 
-  -- Where there is a bottom connection there is a row below s, and it is the fourth of the outgoing cables; the same for a top connection and t.
+  -- Where there is a bottom connection there is a row below s, and it is the fourth of the outgoing cables; the same for a top connection
+  -- and t.
 
   pub bottom-row : bottomLine G < size G → bottomRows G ≡ 1
   unfolding bottomRows

@@ -1,6 +1,6 @@
--- What the layout establishes and the geometry of meetings rests on, in <, ≡ and negation between columns and rows, so that each fact survives
--- strictly increasing maps of columns and of rows. A cable i has its own column x i between the lanes lo i and hi i; rank k stands at (col k, row k).
--- Assumes nothing.
+-- What the layout establishes and the geometry of meetings rests on, in <, ≡ and negation between columns and rows, so that each fact
+-- survives strictly increasing maps of columns and of rows. A cable i has its own column x i between the lanes lo i and hi i; rank k stands
+-- at (col k, row k). Assumes nothing.
 use Prim.Native.Nat.{ℕ, suc, _<_, _≤_}
 use mathlib.Core.Path.{_≡_}
 use mathlib.Core.Logic.{_⊎_}

@@ -1,11 +1,12 @@
--- What holds of the columns once k ranks stand, by induction on k: open cables have different columns, and every rank that stands has its cables
--- on their sides, with no passing cable in its column or between it and its outgoing cables. Assumes nothing.
+-- What holds of the columns once k ranks stand, by induction on k: open cables have different columns, and every rank that stands has its
+-- cables on their sides, with no passing cable in its column or between it and its outgoing cables. Assumes nothing.
 use Prim.Native.Nat.{ℕ, zero, suc, _+_, _-_, _/_, _<_, _≤_}
 use native.Mathlib.Omega.{arith}
 use native.Mathlib.Decide.{decLt, ℕ-discrete}
 use mathlib.Core.Path.{_≡_, sym, ap, _∙_}
 use mathlib.Core.Logic.{_⊎_, inl, inr}
-use Rattle.order.specs.Graph.{StGraph, size, lower, upper, Ranked}
+use Rattle.order.specs.Graph.{StGraph, size, lower, upper}
+use Rattle.order.specs.RankedGraphs.{Ranked}
 use Rattle.layout.specs.Columns.{moved}
 use Rattle.lists.proofs.Increasing.{Increasing, increasing-one, increasing-less}
 use Rattle.layout.proofs.Moved.{moved-increasing, moved-outside, moved-from-left, moved-from-right}

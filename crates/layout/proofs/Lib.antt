@@ -1,5 +1,5 @@
--- Laws of the layout: what its construction establishes (Facts, by Placed), its sizes (Sizes, LineLengths), what follows of meetings (Meet), in every spacing (Maps, SpacedCourses), and crossings (Cross).
--- Assumes nothing.
+-- Laws of the layout: what its construction establishes (Facts, by Placed), its sizes (Sizes, LineLengths), what follows of meetings
+-- (Meet), in every spacing (Maps, SpacedCourses), and crossings (Cross). Assumes nothing.
 pub mod Facts
 pub mod Ports
 pub mod EndLines

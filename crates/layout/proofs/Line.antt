@@ -1,5 +1,5 @@
--- What demand 3 says of one cable by itself: its runs are the segments of its course, level and upright in turn, and share no spot but the points
--- between neighbours. Assumes nothing.
+-- What demand 3 says of one cable by itself: its runs are the segments of its course, level and upright in turn, and share no spot but the
+-- points between neighbours. Assumes nothing.
 use Prim.Native.Nat.{ℕ, zero, suc, _+_, _<_, _≤_, min, max}
 use native.Mathlib.Nat.{add-zero, add-suc}
 use native.Mathlib.Omega.{arith}

@@ -7,7 +7,8 @@ use mathlib.Core.List.{List, [], _∷_}
 use lib.Dec.{eqb}
 use borrow.Author.Tests.{eqb-true}
 use Rattle.lists.specs.Select.{consIf}
-use Rattle.order.specs.Graph.{StGraph, size, lower, upper, Ranked}
+use Rattle.order.specs.Graph.{StGraph, size, lower, upper}
+use Rattle.order.specs.RankedGraphs.{Ranked}
 use Rattle.order.proofs.Graphs.{lower-inside, cables-le}
 use Rattle.geometry.specs.Spots.{Spot, sameSpot}
 use Rattle.drawing.specs.Lengths.{steps, distance, lineLength, mostLength}

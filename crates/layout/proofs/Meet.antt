@@ -16,7 +16,8 @@ use Rattle.layout.proofs.Segments.{Proper, Drawn, drawn}
 use Rattle.layout.proofs.Line.{line-starts, line-ends, line-two, line-differ, line-straight, line-level-upright, line-upright-level, line-itself, line-own-first, line-own-last}
 use Rattle.layout.proofs.Place.{Low, High, Inner, Dip, Climb, Place, low, high, inner, dip, climb, Column, place, level-lane, upright-column, inner-free, high-free, inner-upright, high-level}
 
--- The level of c in its upper lane goes over the column of d: the lane is strictly between d's lanes, d's column strictly between the level's ends.
+-- The level of c in its upper lane goes over the column of d: the lane is strictly between d's lanes, d's column strictly between the
+-- level's ends.
 pub record Over (c d : Course) : Type 0 where
   pub low : d .low < c .high
   pub high : c .high < d .high

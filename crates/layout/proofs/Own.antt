@@ -1,5 +1,5 @@
--- Which cables stand in the column of one of their parts: of each rank that has outgoing cables exactly one of these, and of each rank that has
--- incoming cables exactly one of those. Assumes nothing.
+-- Which cables stand in the column of one of their parts: of each rank that has outgoing cables exactly one of these, and of each rank that
+-- has incoming cables exactly one of those. Assumes nothing.
 use Prim.Native.Nat.{ℕ, zero, suc, _+_, _-_, _/_, _<_, _≤_}
 use mathlib.Core.Path.{_≡_, refl, sym, _∙_, ap, subst}
 use mathlib.Core.Logic.{_↔_}
@@ -10,7 +10,8 @@ use lib.Dec.{eqb}
 use borrow.Author.Tests.{eqb-true, eq-eqb}
 use Rattle.lists.specs.Select.{range, count}
 use Rattle.lists.proofs.Sums.{OneAt, count-each}
-use Rattle.order.specs.Graph.{StGraph, size, lower, upper, Ranked}
+use Rattle.order.specs.Graph.{StGraph, size, lower, upper}
+use Rattle.order.specs.RankedGraphs.{Ranked}
 use Rattle.layout.specs.Columns.{moved}
 use Rattle.layout.proofs.Step.{cable, part, outs, ins, outPlace, inAt, takenColumn, lefts, rights, cable-kept, part-kept, part-opened, cable-opened, outPlace-one, inAt-comes, takenColumn-comes}
 use Rattle.lists.proofs.Increasing.{Increasing, increasing-one}
@@ -126,7 +127,8 @@ module _ (G : StGraph) (H : Ranked G) where
       let g = upper-own (upper G i) i h refl in
       (λ q. g .0 (f .1 q), λ q. f .0 (g .1 q))
 
-  -- Of each rank that has outgoing cables exactly one of them stands in its column, and of each that has incoming cables exactly one of those.
+  -- Of each rank that has outgoing cables exactly one of them stands in its column, and of each that has incoming cables exactly one of
+  -- those.
 
   ownLower : ℕ → Bool
   ownLower i = eqb (cable G (G .parts) i) (part G (G .parts) (lower G i))

@@ -1,5 +1,5 @@
--- Where on its line a spot of a cable lies: on a level run, ends included; on its column strictly between its lanes; or on a stub between a lane
--- and the part beyond which it lies. Assumes nothing.
+-- Where on its line a spot of a cable lies: on a level run, ends included; on its column strictly between its lanes; or on a stub between a
+-- lane and the part beyond which it lies. Assumes nothing.
 use Prim.Native.Nat.{ℕ, zero, suc, _+_, _-_, _<_, _≤_}
 use native.Mathlib.Omega.{arith}
 use native.Mathlib.Decide.{decLt}

@@ -1,5 +1,5 @@
--- The layout's definition establishes the facts of `Facts`, from `Ranked` alone: the lanes of each cable, and the invariant once all ranks stand.
--- Assumes nothing.
+-- The layout's definition establishes the facts of `Facts`, from `Ranked` alone: the lanes of each cable, and the invariant once all ranks
+-- stand. Assumes nothing.
 use Prim.Native.Nat.{ℕ, suc, _+_, _-_, _<_, _≤_}
 use native.Mathlib.Omega.{arith}
 use native.Mathlib.Decide.{decLt, ℕ-discrete}
@@ -9,7 +9,8 @@ use mathlib.Core.Bool.{cond}
 use lib.Dec.{eqb}
 use borrow.Author.Tests.{eq-eqb, ne-eqb}
 use Rattle.lists.specs.Select.{indexOf}
-use Rattle.order.specs.Graph.{StGraph, size, lower, upper, Ranked}
+use Rattle.order.specs.Graph.{StGraph, size, lower, upper}
+use Rattle.order.specs.RankedGraphs.{Ranked}
 use Rattle.order.proofs.Graphs.{lower-inside}
 use Rattle.layout.specs.Columns.{bottomLine, topLine, incoming, columns}
 use Rattle.layout.specs.Points as points

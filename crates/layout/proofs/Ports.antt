@@ -1,5 +1,5 @@
--- What the drawings of figures 2 and 3 have in common, for all counts of cables that four ports leave: every cable has a port, the outgoing ones
--- stand side by side from left to right, and which places can be left or right of the part. Assumes nothing.
+-- What the drawings of figures 2 and 3 have in common, for all counts of cables that four ports leave: every cable has a port, the outgoing
+-- ones stand side by side from left to right, and which places can be left or right of the part. Assumes nothing.
 use Prim.Native.Nat.{ℕ, zero, suc, _+_, _-_, _/_, _<_, _≤_}
 use native.Mathlib.Omega.{arith}
 use mathlib.Core.Path.{_≡_, refl, sym, ap, _∙_}
@@ -115,7 +115,8 @@ left-new (right ∷ ps) (suc j) e = left-new ps j e
 left-new (below ∷ ps) zero e = absurd (omega (arith, ap portNumber e))
 left-new (below ∷ ps) (suc j) e = left-new ps j e
 
--- the place taken, (ins - 1) / 2: an incoming place left of it is the first of three or four, one of the first three right of it the next of two or more
+-- the place taken, (ins - 1) / 2: an incoming place left of it is the first of three or four, one of the first three right of it the next
+-- of two or more
 pub in-left : (ins q : ℕ) → ins ≤ 4 → q < (ins - 1) / 2 → (q ≡ 0) × (3 ≤ ins)
 in-left ins q h g = omega arith
 

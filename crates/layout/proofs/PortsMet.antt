@@ -1,4 +1,5 @@
--- On the finished layout every cable leaves its lower part and comes in at its upper part by the ports that figures 2 and 3 give it. Assumes nothing.
+-- On the finished layout every cable leaves its lower part and comes in at its upper part by the ports that figures 2 and 3 give it.
+-- Assumes nothing.
 use Prim.Native.Nat.{ℕ, suc, _+_, _-_, _/_, _<_, _≤_}
 use native.Mathlib.Omega.{arith}
 use native.Mathlib.Decide.{ℕ-discrete}
@@ -6,7 +7,8 @@ use mathlib.Core.Path.{_≡_, refl, sym, ap, _∙_}
 use mathlib.Core.Logic.{_↔_}
 use lib.ListN.{getD}
 use Rattle.lists.proofs.Increasing.{increasing-le}
-use Rattle.order.specs.Graph.{StGraph, size, lower, upper, Ranked}
+use Rattle.order.specs.Graph.{StGraph, size, lower, upper}
+use Rattle.order.specs.RankedGraphs.{Ranked}
 use Rattle.order.proofs.Graphs.{lower-inside}
 use Rattle.layout.specs.Ports.{Port, left, below, right, above, inPorts, outPorts, portColumn}
 use Rattle.layout.specs.Columns.{moved}

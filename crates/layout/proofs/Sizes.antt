@@ -1,6 +1,6 @@
--- Document 01: 'The sheet has m - n + 1 as width, n - 1 + d + e as height, 2m - 2n + 2 + d + e corners', of the definition, for every ranked input;
--- and of corners, at most four a cable, and at most two where the two lowest ranks, and the two highest, are joined once (2026-04; source 000, lemma 3.4).
--- Assumes nothing.
+-- Document 01: 'The sheet has m - n + 1 as width, n - 1 + d + e as height, 2m - 2n + 2 + d + e corners', of the definition, for every
+-- ranked input; and of corners, at most four a cable, and at most two where the two lowest ranks, and the two highest, are joined once
+-- (2026-04; source 000, lemma 3.4). Assumes nothing.
 use Prim.Native.Nat.{ℕ, zero, suc, _+_, _-_, _*_, _<_, _≤_}
 use mathlib.Core.Path.{_≡_, refl, sym, _∙_, ap, subst}
 use mathlib.Core.Logic.{_⊎_, inl, inr}
@@ -14,7 +14,8 @@ use borrow.Author.Tests.{eqb-true, eq-eqb, ne-eqb}
 use Rattle.lists.specs.Select.{range, tabulate, count, sum, oneIf}
 use Rattle.lists.proofs.Tests.{oneIf-le}
 use Rattle.lists.proofs.Sums.{count-not, sum-ext, sum-add, sum-oneIf}
-use Rattle.order.specs.Graph.{StGraph, size, lower, upper, Ranked, EndsOnce}
+use Rattle.order.specs.Graph.{StGraph, size, lower, upper, EndsOnce}
+use Rattle.order.specs.RankedGraphs.{Ranked}
 use Rattle.layout.specs.Columns.{bottomLine, topLine, columns}
 use Rattle.geometry.specs.Spots.{Spot}
 use Rattle.layout.specs.Points.{Course, turns, pointsOf, cornersOf, bottomRows, topRows, row, partSpot, course, rankSpot, courseOf}
@@ -87,8 +88,8 @@ module _ (G : StGraph) (H : Ranked G) where
   unfolding row
   rising i h = omega (arith, low-le i, high-ge i h, H .rises i h)
 
-  -- The corners of one cable: one where its own column is not its lower part's, one where it is not its upper part's, one for the bottom connection,
-  -- one for the top connection.
+  -- The corners of one cable: one where its own column is not its lower part's, one where it is not its upper part's, one for the bottom
+  -- connection, one for the top connection.
   pub corners-one :
       (i : ℕ) → i < size G
       → length (cornersOf (courseOf G i))

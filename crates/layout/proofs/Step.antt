@@ -13,7 +13,8 @@ use Rattle.lists.proofs.Select.{getD-tabulate, length-tabulate, getD-map, getD-
 use Rattle.lists.proofs.Filters.{without-absent}
 use Rattle.lists.proofs.Lastly.{lastly-e, lastly-i, length-lastly, distinct-lastly, lastly-last, lastly-rises, without-most}
 use Rattle.lists.proofs.Sort.{sortBy-e, sortBy-i, length-sortBy, distinct-sortBy, rising-sortBy}
-use Rattle.order.specs.Graph.{StGraph, size, lower, upper, linesAt, Ranked}
+use Rattle.order.specs.Graph.{StGraph, size, lower, upper, linesAt}
+use Rattle.order.specs.RankedGraphs.{Ranked}
 use Rattle.layout.specs.Ports.{inPorts, outPorts, placeBelow, newLeft, newRight, portColumn}
 use Rattle.layout.specs.Columns.{moved, bottomLine, topLine, byRank, byColumn, outgoing, incoming, taken, step, columns}
 use Rattle.layout.proofs.Ports.{Ports, shown, port-column}
@@ -144,7 +145,8 @@ module _ (G : StGraph) where
   unfoldable pub width : ℕ → ℕ
   width k = columns G k .count
 
-  -- What rank k adds: how many come in and go out, the cable at a place, the place of a cable, the column taken, the new columns on its left and right
+  -- What rank k adds: how many come in and go out, the cable at a place, the place of a cable, the column taken, the new columns on its
+  -- left and right
 
   unfoldable pub outs : ℕ → ℕ
   outs k = length (outgoing G k)

@@ -11,7 +11,8 @@ use borrow.Author.Tests.{lt-ltb, le-ltb}
 use Rattle.lists.specs.Select.{range, count}
 use Rattle.lists.proofs.Select.{getD-mem, length-filter, indexOf-getD}
 use Rattle.lists.proofs.Sums.{count-key, count-all, count-none}
-use Rattle.order.specs.Graph.{StGraph, size, lower, linesAt, Ranked}
+use Rattle.order.specs.Graph.{StGraph, size, lower, linesAt}
+use Rattle.order.specs.RankedGraphs.{Ranked}
 use Rattle.layout.specs.Columns.{moved, outgoing, columns}
 use Rattle.layout.proofs.Step.{outgoing-e, length-outgoing, distinct-outgoing, cable, part, width, outs, ins, outPlace, inAt, takenColumn, lefts, rights, cable-start, width-start, cable-opened, cable-kept, length-cables, part-kept, part-opened, width-suc, outPlace-below, inPlace-below, takenColumn-none, ports, takenColumn-comes}
 use Rattle.layout.proofs.Moved.{moved-left, moved-right, moved-none, moved-le}

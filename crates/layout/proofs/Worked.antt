@@ -1,6 +1,7 @@
--- Stations B, C and D of document 01 at this stage, in ranks: where the ranks stand and where the cables turn. B's values are document 01's, where the
--- ranks of D stand is request 2026-04's. D has all four drawings of figure 3 and the last of figure 2; a chain has those with one cable at an end.
--- And D, which has four cables at both ends, is ranked, so that what is shown of ranked stations holds of it. Assumes nothing.
+-- Stations B, C and D of document 01 at this stage, in ranks: where the ranks stand and where the cables turn. B's values are document
+-- 01's, where the ranks of D stand is request 2026-04's. D has all four drawings of figure 3 and the last of figure 2; a chain has those
+-- with one cable at an end. And D, which has four cables at both ends, is ranked, so that what is shown of ranked stations holds of it.
+-- Assumes nothing.
 use Prim.Native.Nat.{ℕ, zero, suc, _+_, _<_, _≤_}
 use native.Mathlib.Omega.{arith}
 use native.Mathlib.Decide.{decLt}
@@ -9,7 +10,8 @@ use mathlib.Core.List.{List, [], _∷_}
 use lib.ListN.{length}
 use Rattle.lists.specs.Select.{upFrom, range, tabulate, filter}
 use Rattle.lists.proofs.Select.{getD-mem}
-use Rattle.order.specs.Graph.{StGraph, lower, upper, linesAt, Ranked}
+use Rattle.order.specs.Graph.{StGraph, lower, upper, linesAt}
+use Rattle.order.specs.RankedGraphs.{Ranked}
 use Rattle.layout.proofs.EndLines.{linesAt-e}
 use Rattle.geometry.specs.Spots.{Spot, spotAt}
 use Rattle.layout.specs.Points.{cornersOf, rankSpot, courseOf}

@@ -1,5 +1,5 @@
--- Document 01, 'Columns and rows', with request 2026-04: the columns of parts and cables. A column is its place in the list of columns, from the left;
--- a column that is put in moves those right of it. Assumes nothing.
+-- Document 01, 'Columns and rows', with request 2026-04: the columns of parts and cables. A column is its place in the list of columns,
+-- from the left; a column that is put in moves those right of it. Assumes nothing.
 use Prim.Native.Nat.{ℕ, zero, suc, _+_, _-_}
 use mathlib.Core.Bool.{Bool, cond, _&&_}
 use mathlib.Core.List.{List, [], _∷_, _++_, map}
@@ -10,7 +10,8 @@ use Rattle.lists.specs.Select.{tabulate, lastly, indexOf, sortBy}
 use Rattle.order.specs.Graph.{StGraph, size, lower, upper, linesAt}
 use Rattle.layout.specs.Ports.{inPorts, outPorts, placeBelow, newLeft, newRight, portColumn}
 
--- The state between two ranks: the column of each cable by line (of those that were opened), of each part by rank, and the count of columns.
+-- The state between two ranks: the column of each cable by line (of those that were opened), of each part by rank, and the count of
+-- columns.
 pub record Columns : Type 0 where
   pub cables : List ℕ
   pub parts : List ℕ
@@ -33,13 +34,13 @@ module _ (G : StGraph) where
   unfoldable pub lineBetween : ℕ → ℕ → ℕ
   lineBetween j k = placeOr (size G) (seek (λ i. eqb (lower G i) j && eqb (upper G i) k) 0 (size G))
 
-  -- 2026-04: 'Where s has four cables, the one to the second-ranked part leaves downward': the line at the bottom connection (source 000's term), or the
-  -- count of lines where s has fewer.
+  -- 2026-04: 'Where s has four cables, the one to the second-ranked part leaves downward': the line at the bottom connection (source 000's
+  -- term), or the count of lines where s has fewer.
   unfoldable pub bottomLine : ℕ
   bottomLine = cond sourceHasFour (lineBetween 0 1) (size G)
 
-  -- 'Where t has four, the cable from the last-ranked part but one climbs over the top': the line at the top connection, or the count of lines where t
-  -- has fewer.
+  -- 'Where t has four, the cable from the last-ranked part but one climbs over the top': the line at the top connection, or the count of
+  -- lines where t has fewer.
   unfoldable pub topLine : ℕ
   topLine = cond analyserHasFour (lineBetween (G .parts - 2) (G .parts - 1)) (size G)
 
@@ -51,7 +52,8 @@ module _ (G : StGraph) where
   unfoldable pub byColumn : List ℕ → ℕ → List ℕ
   byColumn xs k = sortBy (λ i. getD xs i 0) (linesAt (size G) (upper G) k)
 
-  -- the outgoing cables of rank k: the bottom connection, which 'takes the far right column', is last; 'the other three go left, own, right by rising rank'
+  -- the outgoing cables of rank k: the bottom connection, which 'takes the far right column', is last; 'the other three go left, own, right
+  -- by rising rank'
   unfoldable pub outgoing : ℕ → List ℕ
   outgoing k = lastly bottomLine (byRank k)
 
@@ -72,7 +74,8 @@ module _ (G : StGraph) where
       let a = newLeft ports in
       let b = newRight ports in
       record {
-        cables = tabulate (size G) (λ i. cond (eqb (lower G i) k) (getD (map (portColumn p a) ports) (indexOf i outs) 0) (moved p a b (getD (c .cables) i 0)));
+        cables = tabulate (size G)
+            (λ i. cond (eqb (lower G i) k) (getD (map (portColumn p a) ports) (indexOf i outs) 0) (moved p a b (getD (c .cables) i 0)));
         parts = map (moved p a b) (c .parts) ++ (p + a) ∷ [];
         count = c .count + a + b;
       }

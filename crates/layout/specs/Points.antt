@@ -9,8 +9,8 @@ use Rattle.order.specs.Graph.{StGraph, lower, upper}
 use Rattle.geometry.specs.Spots.{Spot, sameSpot, spotAt}
 use Rattle.layout.specs.Columns.{Columns, sourceHasFour, analyserHasFour, bottomLine, topLine, columns}
 
--- A cable's course: up from its lower part's spot, or down to the lane below it; level in the lower lane to the cable's own column; up to the
--- upper lane; level to its upper part's column; and up, or down, to the part.
+-- A cable's course: up from its lower part's spot, or down to the lane below it; level in the lower lane to the cable's own column; up to
+-- the upper lane; level to its upper part's column; and up, or down, to the part.
 pub record Course : Type 0 where
   pub from : Spot
   pub low : ℕ

@@ -1,6 +1,6 @@
--- Document 01, 'Columns and rows', with request 2026-04: the ports by which the cables of a part leave it and come in, a clause for each drawing of
--- figures 2 and 3 of source 000. Counts of cables that no drawing has leave some without a port; that none of these counts occurs is a law
--- (proofs/Drawings). Assumes nothing.
+-- Document 01, 'Columns and rows', with request 2026-04: the ports by which the cables of a part leave it and come in, a clause for each
+-- drawing of figures 2 and 3 of source 000. Counts of cables that no drawing has leave some without a port; that none of these counts
+-- occurs is a law (proofs/Drawings). Assumes nothing.
 use Prim.Native.Nat.{ℕ, zero, suc, _+_, _<_, _≤_}
 use mathlib.Core.List.{List, [], _∷_}
 
@@ -11,8 +11,8 @@ pub data Port : Type 0 where
   right : Port
   above : Port
 
--- Figure 2: the ports of the cables of s, which all go out, from left to right, the bottom connection last, by their count. The one that leaves upward
--- has the part's own column.
+-- Figure 2: the ports of the cables of s, which all go out, from left to right, the bottom connection last, by their count. The one that
+-- leaves upward has the part's own column.
 abbrev pub sourcePorts : ℕ → List Port
 -- 's gets its own column'
 sourcePorts (suc zero) = above ∷ []
@@ -20,15 +20,15 @@ sourcePorts (suc zero) = above ∷ []
 sourcePorts (suc (suc zero)) = above ∷ right ∷ []
 -- 'one to its left (three or more)'
 sourcePorts (suc (suc (suc zero))) = left ∷ above ∷ right ∷ []
--- 'and one right of all these (four)'; 2026-04: the one at the bottom connection 'leaves downward and takes the far right column; the other three go
--- left, own, right'
+-- 'and one right of all these (four)'; 2026-04: the one at the bottom connection 'leaves downward and takes the far right column; the other
+-- three go left, own, right'
 sourcePorts (suc (suc (suc (suc zero)))) = left ∷ above ∷ right ∷ below ∷ []
 -- no drawing
 sourcePorts zero = []
 sourcePorts (suc (suc (suc (suc (suc outs))))) = []
 
--- Figure 3: the ports of the incoming cables of a part, by their columns from left to right, the top connection last. The part takes the column of
--- the one from below; 'The other incoming cables turn in the part's row and run level to it.'
+-- Figure 3: the ports of the incoming cables of a part, by their columns from left to right, the top connection last. The part takes the
+-- column of the one from below; 'The other incoming cables turn in the part's row and run level to it.'
 abbrev pub inPorts : ℕ → List Port
 -- 'Another part with 1 incoming cable takes that column'
 inPorts (suc zero) = below ∷ []
@@ -36,18 +36,19 @@ inPorts (suc zero) = below ∷ []
 inPorts (suc (suc zero)) = below ∷ right ∷ []
 -- 'with 3, the middle one'
 inPorts (suc (suc (suc zero))) = left ∷ below ∷ right ∷ []
--- 2026-04: t stands 'in the middle column of the other three, which come in left, below and right', and the one at the top connection 'climbs over the
--- top'
+-- 2026-04: t stands 'in the middle column of the other three, which come in left, below and right', and the one at the top connection
+-- 'climbs over the top'
 inPorts (suc (suc (suc (suc zero)))) = left ∷ below ∷ right ∷ above ∷ []
 -- s, and no drawing
 inPorts zero = []
 inPorts (suc (suc (suc (suc (suc ins))))) = []
 
--- Figure 3: the ports of the outgoing cables of a part, from left to right, by the counts of those that came in and that go out. Where none came in,
--- the part is s.
+-- Figure 3: the ports of the outgoing cables of a part, from left to right, by the counts of those that came in and that go out. Where none
+-- came in, the part is s.
 abbrev pub outPorts : ℕ → ℕ → List Port
 outPorts zero outs = sourcePorts outs
--- one came in: 'one takes the part's own column. A second takes a new column directly right'; 'Three (1 came in) take new left, own, new right.'
+-- one came in: 'one takes the part's own column. A second takes a new column directly right'; 'Three (1 came in) take new left, own, new
+-- right.'
 outPorts (suc zero) zero = []
 outPorts (suc zero) (suc zero) = above ∷ []
 outPorts (suc zero) (suc (suc zero)) = above ∷ right ∷ []

@@ -14,7 +14,8 @@ use Rattle.lists.specs.Search.{seek, isFound}
 use Rattle.lists.proofs.Search.{found-more}
 use Rattle.lists.proofs.Bools.{and-e, or-e, or-right, same-test}
 use Rattle.words.specs.Words.{firstOf, secondOf}
-use Rattle.words.specs.Limits.{mostParts, pairPlaces}
+use Rattle.words.specs.Limits.{mostParts}
+use Rattle.words.specs.Rooms.{pairPlaces}
 use Rattle.checks.specs.Checks.{Clear}
 use Rattle.station.specs.Checks.{sameParts, repeated}
 use Rattle.station.specs.Code.{upTo}

@@ -1,4 +1,5 @@
--- Laws of selection: two tests one after the other are both at once, tests that agree select the same and as many, and a search finds the first selected. Assumes nothing.
+-- Laws of selection: two tests one after the other are both at once, tests that agree select the same and as many, and a search finds the
+-- first selected. Assumes nothing.
 use Prim.Native.Nat.{ℕ, zero, suc, _+_, _<_, _≤_}
 use native.Mathlib.Omega.{arith}
 use native.Mathlib.Numerals.{add-one}

@@ -1,4 +1,5 @@
--- Strictly increasing maps of numbers keep ≤, take back ≡, < and ≤, and keep the tests of them, the lesser and the greater of two. Assumes nothing.
+-- Strictly increasing maps of numbers keep ≤, take back ≡, < and ≤, and keep the tests of them, the lesser and the greater of two. Assumes
+-- nothing.
 use Prim.Native.Nat.{ℕ, _<_, _≤_, min, max}
 use native.Mathlib.Omega.{arith}
 use native.Mathlib.Decide.{decLt}

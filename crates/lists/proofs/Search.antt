@@ -1,5 +1,5 @@
--- Laws of seek. In a loop that searches from i up to n the invariant is `place ≡ seek p i (n - i)`: seek-at, seek-next and seek-end are what a hit, a turn and the
--- loop's end need. Assumes nothing.
+-- Laws of seek. In a loop that searches from i up to n the invariant is `place ≡ seek p i (n - i)`: seek-at, seek-next and seek-end are
+-- what a hit, a turn and the loop's end need. Assumes nothing.
 use Prim.Native.Nat.{ℕ, zero, suc, _+_, _-_, _≤_, _<_}
 use mathlib.Core.Path.{_≡_, refl, _∙_}
 use mathlib.Core.Bool.{Bool, true, false, cond, _||_, true≢false}

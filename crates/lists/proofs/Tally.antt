@@ -1,5 +1,5 @@
--- Counts by place: a count over a list is a count over its places, and two tests that never pass together count at most as one that both imply.
--- Assumes nothing.
+-- Counts by place: a count over a list is a count over its places, and two tests that never pass together count at most as one that both
+-- imply. Assumes nothing.
 use Prim.Native.Nat.{ℕ, zero, suc, _+_, _<_, _≤_}
 use native.Mathlib.Omega.{arith}
 use mathlib.Core.Path.{_≡_, refl, sym, ap, _∙_}

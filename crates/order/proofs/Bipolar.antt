@@ -1,4 +1,5 @@
--- What the order theorem asks of a station: that it is wired and bipolar, which follows from a pass of checks 1 to 8 and 10. Assumes nothing.
+-- What the order theorem asks of a station: that it is wired and bipolar, which follows from a pass of checks 1 to 8 and 10. Assumes
+-- nothing.
 use native.Mathlib.Decide.{ℕ-discrete}
 use mathlib.Core.Path.{_≡_, sym, _∙_}
 use mathlib.Core.Logic.{_⊎_, inl, inr}

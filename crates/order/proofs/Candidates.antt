@@ -20,7 +20,8 @@ use Rattle.order.proofs.Reach.{Among, reached, unreached-iff, AllJoined
 use Rattle.order.specs.Bipolar.{Off}
 use Rattle.order.proofs.Bipolar.{Orderable}
 
--- 'an unranked part, other than t, that is joined to a ranked part and whose removal from the unranked parts leaves those that remain joined to each other'
+-- 'an unranked part, other than t, that is joined to a ranked part and whose removal from the unranked parts leaves those that remain
+-- joined to each other'
 pub record Candidate (cs : List Cable) (t : ℕ) (unranked : List ℕ) (w : ℕ) : Type 0 where
   pub other : w ≡ t → ⊥
   pub joined : (q : ℕ) × Joined cs w q × (List·Memᴰ q unranked → ⊥)

@@ -1,5 +1,5 @@
--- What remains of an st-ordering once some parts are ranked: a completion. The order's rule gives one, and its first part is the lowest that any has.
--- Assumes nothing.
+-- What remains of an st-ordering once some parts are ranked: a completion. The order's rule gives one, and its first part is the lowest
+-- that any has. Assumes nothing.
 use Prim.Native.Nat.{ℕ, zero, suc, _<_, _≤_}
 use native.Mathlib.Omega.{arith}
 use native.Mathlib.Decide.{ℕ-discrete}

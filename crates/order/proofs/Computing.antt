@@ -1,4 +1,5 @@
--- The definitions that worked examples compute with, opened together: an example names `order-computing` on its unfolding line. Assumes nothing.
+-- The definitions that worked examples compute with, opened together: an example names `order-computing` on its unfolding line. Assumes
+-- nothing.
 use Rattle.order.specs.Reach.{neighbours, endsAt, walk, unreached, null, connected, check9, check10}
 use Rattle.order.specs.Checks.{stationChecks, allChecks}
 use Rattle.order.specs.Order.{candidate, firstOr, extend, order, rankIn}

@@ -10,7 +10,8 @@ use Rattle.words.specs.Limits.{mostDegree}
 use Rattle.lists.specs.Select.{range, count}
 use Rattle.lists.proofs.Select.{length-filter}
 use Rattle.lists.proofs.Sums.{count-none, count-all, count-key}
-use Rattle.order.specs.Graph.{StGraph, size, lower, upper, linesAt, Ranked}
+use Rattle.order.specs.Graph.{StGraph, size, lower, upper, linesAt}
+use Rattle.order.specs.RankedGraphs.{Ranked}
 
 module _ (g : StGraph) (R : Ranked g) where
   pub lower-inside : (i : ℕ) → i < size g → lower g i < g .parts

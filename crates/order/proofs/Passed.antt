@@ -15,7 +15,8 @@ use Rattle.order.specs.Reach.{check9, check10}
 use Rattle.order.specs.Checks.{stationChecks, allChecks}
 use Rattle.order.specs.Order.{order}
 use Rattle.order.specs.StOrder.{StOrdering, Smallest}
-use Rattle.order.specs.Graph.{Ranked, EndsOnce}
+use Rattle.order.specs.RankedGraphs.{Ranked}
+use Rattle.order.specs.Graph.{EndsOnce}
 use Rattle.order.specs.Orientation.{graphOf}
 use Rattle.order.proofs.Bipolar.{Orderable, bipolar-of-check10}
 use Rattle.order.proofs.StOrder.{order-ordering, order-smallest}

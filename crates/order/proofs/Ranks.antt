@@ -18,7 +18,8 @@ use Rattle.station.specs.Station.{Cable, Station, joins, degree, noCable}
 use Rattle.order.specs.Reach.{Joined}
 use Rattle.order.specs.Order.{order, rankIn}
 use Rattle.order.specs.StOrder.{StOrdering}
-use Rattle.order.specs.Graph.{StGraph, size, lower, upper, linesAt, Ranked}
+use Rattle.order.specs.Graph.{StGraph, size, lower, upper, linesAt}
+use Rattle.order.specs.RankedGraphs.{Ranked}
 use Rattle.order.specs.Orientation.{lowerRank, upperRank, rankedBy, graphOf}
 use Rattle.order.proofs.Joins.{within, cableAt, Between, Lined, joined-line, joined-sym}
 use Rattle.order.proofs.Bipolar.{Orderable}

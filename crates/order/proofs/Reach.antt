@@ -1,5 +1,5 @@
--- Reaching agrees with paths: what a walk leaves are the parts without a path, and a set is connected exactly if any two of its parts have a path inside it.
--- Assumes nothing.
+-- Reaching agrees with paths: what a walk leaves are the parts without a path, and a set is connected exactly if any two of its parts have
+-- a path inside it. Assumes nothing.
 use Prim.Native.Nat.{ℕ, zero, suc, _+_, _≤_}
 use native.Mathlib.Omega.{arith}
 use native.Mathlib.Decide.{ℕ-discrete}

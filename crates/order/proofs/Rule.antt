@@ -109,8 +109,8 @@ module _ (st : Station) (H : Orderable st) where
       fro : (x < st .parts) × ((j : ℕ) → j < suc k → x ≡ getD (st .source ∷ later) j 0 → ⊥) → List·Memᴰ x (others st H) × ((j : ℕ) → j < k → x ≡ getD later j 0 → ⊥)
       fro f = (others-i st H (f .0) (f .1 0 (omega arith)), λ j h. f .1 (suc j) (omega arith))
 
-  -- 'Each next rank goes to the lowest-numbered unranked part, other than t, that is joined to a ranked part and whose removal from the unranked parts leaves
-  -- those that remain joined to each other'
+  -- 'Each next rank goes to the lowest-numbered unranked part, other than t, that is joined to a ranked part and whose removal from the
+  -- unranked parts leaves those that remain joined to each other'
   pub record NextRank (k w : ℕ) : Type 0 where
     pub unranked : List·Memᴰ w (unrankedAt st k)
     pub candidacy : Candidate (st .cables) (st .analyser) (unrankedAt st k) w

@@ -9,8 +9,8 @@ use Rattle.order.specs.Reach.{Path}
 abbrev pub Off : ℕ → ℕ → ℕ → Type 0
 Off n v x = (x < n) × (x ≡ v → ⊥)
 
--- The station is biconnected once a cable joins s and t: for every part v, every other part has a path without v to s or to t. Where v is one of them, the path
--- is to the other.
+-- The station is biconnected once a cable joins s and t: for every part v, every other part has a path without v to s or to t. Where v is
+-- one of them, the path is to the other.
 abbrev pub Bipolar : Station → Type 0
 Bipolar st =
     (v p : ℕ) → v < st .parts → p < st .parts → (p ≡ v → ⊥)

@@ -7,7 +7,10 @@ use Rattle.order.specs.Reach.{check9, check10}
 
 -- the checks of the station that a list describes, in their order
 unfoldable pub stationChecks : List Check
-stationChecks = record { number = 9; finds = λ list. check9 (stationOf list) } ∷ record { number = 10; finds = λ list. check10 (stationOf list) } ∷ []
+stationChecks =
+    record { number = 9; finds = λ list. check9 (stationOf list) }
+    ∷ record { number = 10; finds = λ list. check10 (stationOf list) }
+    ∷ []
 
 -- the checks that look at a list alone
 unfoldable pub allChecks : List Check

@@ -1,13 +1,13 @@
 -- The cables of a station in ranks, which is all that the layout looks at. Assumes nothing.
-use Prim.Native.Nat.{ℕ, suc, _+_, _-_, _<_, _≤_}
+use Prim.Native.Nat.{ℕ, _-_, _<_}
 use mathlib.Core.Path.{_≡_}
 use mathlib.Core.List.{List}
 use lib.ListN.{length, getD}
 use lib.Dec.{eqb}
-use Rattle.words.specs.Limits.{mostDegree}
 use Rattle.lists.specs.Select.{range, filter}
 
--- An st-graph (source 000, section 2): the count of its parts, which are their ranks, and by line the ranks of each cable's lower and upper part.
+-- An st-graph (source 000, section 2): the count of its parts, which are their ranks, and by line the ranks of each cable's lower and upper
+-- part.
 pub record StGraph : Type 0 where
   pub parts : ℕ
   pub lowers : List ℕ
@@ -27,15 +27,6 @@ upper g i = getD (g .uppers) i 0
 -- of m lines, those whose rank, as the function gives it, is k
 unfoldable pub linesAt : ℕ → (ℕ → ℕ) → ℕ → List ℕ
 linesAt m rank k = filter (λ i. eqb (rank i) k) (range m)
-
--- Every cable's ends differ in rank, every rank above 0 has a cable from below, every rank below the last has one upward, and no rank has more than four.
-pub record Ranked (g : StGraph) : Type 0 where
-  pub lines : length (g .uppers) ≡ size g
-  pub rises : (i : ℕ) → i < size g → lower g i < upper g i
-  pub inside : (i : ℕ) → i < size g → upper g i < g .parts
-  pub entered : (k : ℕ) → 0 < k → k < g .parts → (i : ℕ) × (i < size g) × (upper g i ≡ k)
-  pub continued : (k : ℕ) → suc k < g .parts → (i : ℕ) × (i < size g) × (lower g i ≡ k)
-  pub four : (k : ℕ) → length (linesAt (size g) (lower g) k) + length (linesAt (size g) (upper g) k) ≤ mostDegree
 
 -- at most one cable goes from rank u to rank v
 abbrev pub Once : StGraph → ℕ → ℕ → Type 0

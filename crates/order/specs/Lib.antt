@@ -6,3 +6,5 @@ pub mod Bipolar
 pub mod Graph
 pub mod Orientation
 pub mod Checks
+-- What only laws and the contracts of code cite
+pub mod RankedGraphs

@@ -7,8 +7,8 @@ use Rattle.lists.specs.Select.{range, member, any, without, indexOf}
 use Rattle.station.specs.Station.{Cable, Station}
 use Rattle.order.specs.Reach.{neighbours, connected}
 
--- An unranked part, 'other than t, that is joined to a ranked part and whose removal from the unranked parts leaves those that remain joined to each
--- other by paths among themselves'. Every part that is not unranked is ranked.
+-- An unranked part, 'other than t, that is joined to a ranked part and whose removal from the unranked parts leaves those that remain
+-- joined to each other by paths among themselves'. Every part that is not unranked is ranked.
 unfoldable pub candidate : List Cable → ℕ → List ℕ → ℕ → Bool
 candidate cs t unranked w =
     not (eqb w t) && any (λ q. not (member q unranked)) (neighbours cs w) && connected cs (without w unranked)
@@ -18,7 +18,8 @@ unfoldable pub firstOr : ℕ → (ℕ → Bool) → List ℕ → ℕ
 firstOr d p [] = d
 firstOr d p (x ∷ xs) = cond (p x) x (firstOr d p xs)
 
--- 'Each next rank goes to the lowest-numbered' candidate; the unranked parts stand by rising number. 't comes last': where no candidate is left.
+-- 'Each next rank goes to the lowest-numbered' candidate; the unranked parts stand by rising number. 't comes last': where no candidate is
+-- left.
 unfoldable pub extend : List Cable → ℕ → ℕ → List ℕ → List ℕ
 extend cs t zero unranked = []
 extend cs t (suc k) unranked =

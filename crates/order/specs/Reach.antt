@@ -29,8 +29,9 @@ unfoldable pub endsAt : List Cable → List ℕ → ℕ
 endsAt cs [] = 0
 endsAt cs (p ∷ ps) = length (neighbours cs p) + endsAt cs ps
 
--- A walk: of the parts still to be visited (todo), each that is among those not yet reached (left) is taken out there, and its neighbours are to be
--- visited. What is left at the end was not reached. Every step takes one part off todo, so that as many steps are enough as are ever put on it.
+-- A walk: of the parts still to be visited (todo), each that is among those not yet reached (left) is taken out there, and its neighbours
+-- are to be visited. What is left at the end was not reached. Every step takes one part off todo, so that as many steps are enough as are
+-- ever put on it.
 unfoldable pub walk : List Cable → ℕ → List ℕ → List ℕ → List ℕ
 walk cs zero todo left = left
 walk cs (suc k) [] left = left

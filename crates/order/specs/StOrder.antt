@@ -1,4 +1,5 @@
--- What is to be shown of the order: it is an st-ordering as source 000, section 2, defines it, and the smallest 'when compared part by part'. Assumes nothing.
+-- What is to be shown of the order: it is an st-ordering as source 000, section 2, defines it, and the smallest 'when compared part by
+-- part'. Assumes nothing.
 use Prim.Native.Nat.{ℕ, suc, _<_}
 use mathlib.Core.Path.{_≡_}
 use mathlib.Core.Logic.{_⊎_}

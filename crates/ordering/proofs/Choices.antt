@@ -7,7 +7,8 @@ use mathlib.Core.List.{List}
 use lib.ListN.{length, getD, drop}
 use lib.Dec.{eqb}
 use borrow.Author.Tests.{eqb-false, eq-eqb, ne-eqb, not-true, not-false}
-use Rattle.words.specs.Limits.{mostDegree, mostParts, neighbourPlaces}
+use Rattle.words.specs.Limits.{mostDegree, mostParts}
+use Rattle.words.specs.Rooms.{neighbourPlaces}
 use Rattle.lists.specs.declared.Found.{Found}
 use Rattle.lists.specs.declared.Found.the-variants.{At, Nothing}
 use Rattle.lists.specs.Search.{isFound}

@@ -1,4 +1,5 @@
--- What the code keeps and tests when it chooses the next part: a separation witness beside each part, and the tests of a candidate. Assumes nothing.
+-- What the code keeps and tests when it chooses the next part: a separation witness beside each part, and the tests of a candidate. Assumes
+-- nothing.
 use Prim.Native.Nat.{ℕ, _<_}
 use mathlib.Core.Path.{_≡_}
 use mathlib.Core.Bool.{Bool, false, not, _&&_}
@@ -35,7 +36,8 @@ knownSeparator list unranked witness w = getD unranked (stationOf list .analyser
 -- the tests of a candidate that need no walk
 unfoldable pub mayBeNext : List ℕ → List ℕ → List Bool → List ℕ → ℕ → Bool
 mayBeNext list table unranked witness w =
-    getD unranked w false && not (eqb w (stationOf list .analyser)) && not (knownSeparator list unranked witness w) && bordering table unranked w
+    getD unranked w false && not (eqb w (stationOf list .analyser))
+    && not (knownSeparator list unranked witness w) && bordering table unranked w
 
 -- part w is unranked and a candidate
 unfoldable pub eligible : List ℕ → List Bool → ℕ → Bool

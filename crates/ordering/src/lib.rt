@@ -1,5 +1,5 @@
-// The part that gets each next rank (document 01, 'The order of parts'). Where a part is no candidate because it separates another one from t, that one is
-// its witness: fewer unranked parts make no new path, so that it needs no other walk until its witness is ranked.
+// The part that gets each next rank (document 01, 'The order of parts'). Where a part is no candidate because it separates another one from
+// t, that one is its witness: fewer unranked parts make no new path, so that it needs no other walk until its witness is ranked.
 use listing::fields;
 use lists::Found;
 use reachability::adjacency::DEGREES;
@@ -13,7 +13,8 @@ use words::limits::MOST_PARTS;
 ghost use mathlib.Core.Path.{_≡_};
 ghost use Prim.Native.Nat.{ℕ, _<_, _≤_};
 ghost use lib.ListN.{length, getD, take};
-ghost use Rattle.words.specs.Limits.{mostParts, stackPlaces};
+ghost use Rattle.words.specs.Limits.{mostParts};
+ghost use Rattle.words.specs.Rooms.{stackPlaces};
 ghost use Rattle.station.specs.Station.{stationOf};
 ghost use Rattle.station.specs.Code.{Wired};
 ghost use Rattle.order.specs.Order.{order};
@@ -57,7 +58,8 @@ fn is_known_separator(
     unranked[t] && unranked[q]
 }
 
-// The tests of a candidate that need no walk: part w is unranked, is not t, is not known to separate its witness from t, and is joined to a ranked part.
+// The tests of a candidate that need no walk: part w is unranked, is not t, is not known to separate its witness from t, and is joined to a
+// ranked part.
 fn may_be_next(
     list: &[u32],
     table: &Table,

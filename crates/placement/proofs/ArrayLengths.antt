@@ -1,4 +1,5 @@
--- The arrays of columns that a function is handed are as long as the struct says, so that the columns of all parts can be lent. Assumes nothing.
+-- The arrays of columns that a function is handed are as long as the struct says, so that the columns of all parts can be lent. Assumes
+-- nothing.
 use Prim.Native.Nat.{ℕ, _≤_}
 use native.Mathlib.Omega.{arith}
 use mathlib.Core.Path.{_≡_, sym, _∙_}

@@ -9,7 +9,8 @@ use lib.Seq.{getD-take}
 use lib.Dec.{eqb, ltb}
 use Rattle.lists.specs.Select.{oneIf}
 use Rattle.lists.proofs.Tests.{oneIf-le}
-use Rattle.order.specs.Graph.{StGraph, size, lower, upper, linesAt, Ranked}
+use Rattle.order.specs.Graph.{StGraph, size, lower, upper, linesAt}
+use Rattle.order.specs.RankedGraphs.{Ranked}
 use Rattle.ranking.specs.Arrays.{graphIn, GraphFits}
 use Rattle.ranking.specs.declared.Graph.{Graph}
 use Rattle.geometry.specs.Spots.{Spot, spotAt, spotIn}

@@ -1,11 +1,13 @@
--- What the values of a layout say of its drawing: its parts, its sizes, its courses with their lengths, and which of them cross. Assumes nothing.
+-- What the values of a layout say of its drawing: its parts, its sizes, its courses with their lengths, and which of them cross. Assumes
+-- nothing.
 use Prim.Native.Nat.{ℕ, _+_, _-_, _*_, _<_, _≤_}
 use native.Mathlib.Omega.{arith}
 use mathlib.Core.Path.{_≡_, sym, ap, ap₂, subst, _∙_}
 use mathlib.Core.List.{List}
 use lib.ListN.{length, getD}
 use lib.Seq.{getD-take}
-use Rattle.order.specs.Graph.{StGraph, size, Ranked}
+use Rattle.order.specs.Graph.{StGraph, size}
+use Rattle.order.specs.RankedGraphs.{Ranked}
 use Rattle.ranking.specs.Arrays.{graphIn}
 use Rattle.drawing.specs.declared.spacing.Spacing.{Spacing}
 use Rattle.geometry.specs.Spots.{spotAt}

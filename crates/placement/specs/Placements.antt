@@ -41,4 +41,6 @@ portColumns p = map (portColumn (p .column) (p .left)) (portsIn (p .ports))
 pub record Opens (m : ℕ) (outs : Incident) (p : Placement) : Type 0 where
   pub most : outs .count ≤ 4
   pub ports : p .ports .count ≡ outs .count
-  pub below : (j : ℕ) → j < outs .count → getD (outs .first .line ∷ outs .second .line ∷ outs .third .line ∷ outs .fourth .line ∷ []) j 0 < m
+  pub below :
+      (j : ℕ) → j < outs .count
+      → getD (outs .first .line ∷ outs .second .line ∷ outs .third .line ∷ outs .fourth .line ∷ []) j 0 < m

@@ -20,7 +20,8 @@ pub struct Connections {
     pub top_line: usize,
 }
 
-// 'the one to the second-ranked part leaves downward': the line at the bottom connection, or the count of lines where s has fewer than four.
+// 'the one to the second-ranked part leaves downward': the line at the bottom connection, or the count of lines where s has fewer than
+// four.
 fn bottom_line(graph: Graph) -> usize
     requires { ⌜ GraphFits graph ⌝ }
     ensures { λ r. ⌜ r ≡ bottomLine (graphIn graph) ⌝ }
@@ -28,7 +29,8 @@ fn bottom_line(graph: Graph) -> usize
     fourth_or(outgoing(graph, Rank::of(0)), graph.cables)
 }
 
-// 'the cable from the last-ranked part but one climbs over the top': the line at the top connection, or the count of lines where t has fewer than four.
+// 'the cable from the last-ranked part but one climbs over the top': the line at the top connection, or the count of lines where t has
+// fewer than four.
 fn top_line(graph: Graph, columns: Columns) -> usize
     requires { ⌜ GraphFits graph ⌝ }
     ensures { λ r. ⌜ r ≡ topLine (graphIn graph) ⌝ }

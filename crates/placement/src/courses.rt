@@ -39,7 +39,8 @@ fn part_spot(parts: &[u16], bottom_rows: u16, k: Rank) -> Spot
     }
 }
 
-// A cable leaves its part in the part's row and comes in so; the bottom connection 'turns in row 0', and the top connection goes 'to row d + n'.
+// A cable leaves its part in the part's row and comes in so; the bottom connection 'turns in row 0', and the top connection goes 'to row d
+// + n'.
 fn course_of(parts: &[u16], connections: Connections, cable: PlacedCable) -> Course
     requires { ⌜ Reaches (length (now parts)) connections cable ⌝ }
     ensures { λ r. ⌜ courseIn r ≡ courseBy (now (parts .entry)) connections cable ⌝ }

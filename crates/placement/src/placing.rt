@@ -77,7 +77,8 @@ fn place_cables(columns: &mut [u16], outs: Incident, placement: Placement)
     requires { ⌜ PlacementFits placement ⌝ }
     requires { ⌜ ((i : ℕ) → i < length (now columns) → getD (now columns) i 0 < 32768) ⌝ }
     requires { ⌜ Opens (length (now columns)) outs placement ⌝ }
-    ensures { λ r. ⌜ now (columns .exit) ≡ setEach (linesIn outs) (portColumns placement) (map (movedBy placement) (now (columns .entry))) ⌝ }
+    ensures { λ r. ⌜ now (columns .exit)
+        ≡ setEach (linesIn outs) (portColumns placement) (map (movedBy placement) (now (columns .entry))) ⌝ }
 {
     move_columns(columns, placement);
     let ports = placement.ports;

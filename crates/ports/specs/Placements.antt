@@ -23,7 +23,8 @@ portRow n a b c d = take n (portIn a ∷ portIn b ∷ portIn c ∷ portIn d ∷ 
 abbrev pub portsIn : PortRow → List Port
 portsIn r = portRow (r .count) (r .first) (r .second) (r .third) (r .fourth)
 
--- p is where a part stands that takes column x, with a new columns on its left and b on its right, and its outgoing cables at the ports outs
+-- p is where a part stands that takes column x, with a new columns on its left and b on its right, and its outgoing cables at the ports
+-- outs
 pub record PlacementIs (x a b : ℕ) (outs : List Port) (p : Placement) : Type 0 where
   pub column : p .column ≡ x
   pub left : p .left ≡ a

@@ -1,6 +1,6 @@
-// Where a part stands, by the counts of its cables: one case for each drawing of figures 2 and 3 of source 000. A case says the column that the part
-// takes, how many new ones come on its left and on its right, and the ports by which its outgoing cables leave it, from left to right. Figure 3 draws
-// parts with four cables; one with fewer has fewer going out.
+// Where a part stands, by the counts of its cables: one case for each drawing of figures 2 and 3 of source 000. A case says the column that
+// the part takes, how many new ones come on its left and on its right, and the ports by which its outgoing cables leave it, from left to
+// right. Figure 3 draws parts with four cables; one with fewer has fewer going out.
 use incidence::incident::Incident;
 ghost use mathlib.Core.List.{[], _∷_};
 ghost use Prim.Native.Nat.{_≤_};
@@ -137,8 +137,8 @@ fn one_in(ins: Incident, outs: usize) -> Placement
     }
 }
 
-// Figure 3, the drawing with two coming in: the part takes the left column, and the other cable comes from the right. A second one that goes out
-// leaves to the left.
+// Figure 3, the drawing with two coming in: the part takes the left column, and the other cable comes from the right. A second one that
+// goes out leaves to the left.
 fn two_in(ins: Incident, outs: usize) -> Placement
     requires { ⌜ outs ≤ 2 ⌝ }
     ensures { λ r. ⌜ Stands (firstKeys 2 ins) (inPorts 2) (outPorts 2 outs) r ⌝ }
@@ -163,8 +163,8 @@ fn three_in(ins: Incident, outs: usize) -> Placement
     }
 }
 
-// Figure 3, the drawing with four coming in: t takes the middle column of the first three, of which the others come from the left and from the right.
-// The last is the top connection, which comes over the top, and none goes out.
+// Figure 3, the drawing with four coming in: t takes the middle column of the first three, of which the others come from the left and from
+// the right. The last is the top connection, which comes over the top, and none goes out.
 fn four_in(ins: Incident) -> Placement
     ensures { λ r. ⌜ Stands (firstKeys 4 ins) (inPorts 4) (outPorts 4 0) r ⌝ }
 {

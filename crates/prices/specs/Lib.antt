@@ -3,4 +3,5 @@ pub mod PriceList
 pub mod Discounts
 pub mod Quote
 pub mod Quoted
+-- What only laws and the contracts of code cite
 pub mod Values

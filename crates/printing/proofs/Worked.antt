@@ -1,4 +1,5 @@
--- Document 01's example of the sheet program with request 2026-01's lengths, from the bytes of the triangle's list to the text of its sheet, and lines of the other kinds. Assumes nothing.
+-- Document 01's example of the sheet program with request 2026-01's lengths, from the bytes of the triangle's list to the text of its
+-- sheet, and lines of the other kinds. Assumes nothing.
 use Prim.Native.Nat.{ℕ}
 use mathlib.Core.Path.{_≡_, refl, _∙_}
 use mathlib.Core.List.{List, [], _∷_}

@@ -73,7 +73,8 @@ pub fn print_sheet(bytes: &[u8], out: &mut [u8]) -> usize
     }
 }
 
-// The text for a file, of which count bytes were read into a buffer with room for one byte more than a file may have: a file that is too large shows.
+// The text for a file, of which count bytes were read into a buffer with room for one byte more than a file may have: a file that is too
+// large shows.
 pub fn print_read(buffer: &[u8], count: usize, out: &mut [u8]) -> usize
     requires { ⌜ (length (now buffer) ≡ mostBytes + 1) × (count ≤ length (now buffer)) ⌝ }
     requires { ⌜ 9 * room ≤ length (now out) ⌝ }

@@ -1,4 +1,5 @@
--- The arrays of a graph that a function is handed are as long as the struct says, so that its lines and ranks lie within them. Assumes nothing.
+-- The arrays of a graph that a function is handed are as long as the struct says, so that its lines and ranks lie within them. Assumes
+-- nothing.
 use Prim.Native.Nat.{ℕ, _<_}
 use native.Mathlib.Omega.{arith}
 use mathlib.Core.Path.{_≡_, sym, _∙_}

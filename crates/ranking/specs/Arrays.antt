@@ -3,7 +3,8 @@ use Prim.Native.Nat.{_≤_}
 use lib.ListN.{take}
 use Rattle.words.specs.Limits.{mostParts, mostCables}
 use Rattle.ranking.specs.declared.Graph.{Graph}
-use Rattle.order.specs.Graph.{StGraph, Ranked}
+use Rattle.order.specs.Graph.{StGraph}
+use Rattle.order.specs.RankedGraphs.{Ranked}
 use Rattle.ordering.specs.Numbers.{rankNumbers}
 
 -- of each array, as many lines as there are cables

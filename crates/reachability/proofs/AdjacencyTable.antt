@@ -9,7 +9,8 @@ use lib.ListN.{length, getD, take, drop, set, replicate, length-append, length-s
 use lib.Seq.{getD-set-same, getD-set-other, getD-take, getD-drop, drop-set-add, take-suc-set, length-take-le, drop-cons}
 use lib.Dec.{eqb}
 use borrow.Author.Tests.{eq-eqb, ne-eqb}
-use Rattle.words.specs.Limits.{adjacencyPlaces, mostDegree, mostParts, neighbourPlaces}
+use Rattle.words.specs.Rooms.{adjacencyPlaces, neighbourPlaces}
+use Rattle.words.specs.Limits.{mostDegree, mostParts}
 use Rattle.lists.specs.Select.{consIf}
 use Rattle.lists.proofs.Slices.{slice-set-before, slice-set-behind, replicate-below}
 use Rattle.station.specs.Station.{Station, stationOf, noCable}

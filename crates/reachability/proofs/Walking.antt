@@ -7,7 +7,7 @@ use mathlib.Core.Bool.{Bool, true, false, cond}
 use mathlib.Core.List.{List, [], _∷_, _++_, List·Memᴰ, List·Memᴰ·head, List·Memᴰ·tail, List·Memᴰ·append-cases, List·Memᴰ·eq-of-singleton}
 use lib.ListN.{length, getD, set, length-set}
 use lib.Seq.{getD-set-same}
-use Rattle.words.specs.Limits.{neighbourPlaces, stackPlaces}
+use Rattle.words.specs.Rooms.{neighbourPlaces, stackPlaces}
 use Rattle.lists.specs.Select.{member, without}
 use Rattle.station.specs.Station.{stationOf}
 use Rattle.station.specs.Code.{Wired}

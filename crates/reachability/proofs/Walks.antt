@@ -11,7 +11,8 @@ use lib.ListN.{length, getD, take, set, length-append, length-set}
 use lib.Seq.{take-suc, getD-set-same, getD-set-other, take-all}
 use lib.Dec.{eqb}
 use borrow.Author.Tests.{eq-eqb, ne-eqb}
-use Rattle.words.specs.Limits.{mostDegree, mostParts, neighbourPlaces, stackPlaces}
+use Rattle.words.specs.Limits.{mostDegree, mostParts}
+use Rattle.words.specs.Rooms.{neighbourPlaces, stackPlaces}
 use Rattle.lists.specs.Select.{member, consIf, filter, without}
 use Rattle.lists.proofs.Select.{Distinct}
 use Rattle.lists.proofs.Filters.{without-absent}
@@ -99,8 +100,8 @@ unfolding fromTop
 fromTop-pop stack zero h = absurd (omega arith)
 fromTop-pop stack (suc k) h = let e : suc k - 1 ≡ k = omega arith in rw e refl
 
--- A part's neighbours while they are pushed, from the last down to the first: the first j of them, in front of the stack, are all of them in front of the
--- stack at the start.
+-- A part's neighbours while they are pushed, from the last down to the first: the first j of them, in front of the stack, are all of them
+-- in front of the stack at the start.
 pub record Pushing (table : List ℕ) (p : ℕ) (stack₀ : List ℕ) (top : ℕ) (stack : List ℕ) (at j : ℕ) : Type 0 where
   pub formed : TableFits table
   pub inside : p < mostParts

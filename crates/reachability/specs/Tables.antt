@@ -4,7 +4,8 @@ use mathlib.Core.Path.{_≡_}
 use mathlib.Core.Bool.{Bool, false, cond, not}
 use mathlib.Core.List.{List, [], _∷_, _++_, List·Memᴰ}
 use lib.ListN.{length, getD, take, drop, set}
-use Rattle.words.specs.Limits.{adjacencyPlaces, mostDegree, mostParts, neighbourPlaces, stackPlaces}
+use Rattle.words.specs.Rooms.{adjacencyPlaces, neighbourPlaces, stackPlaces}
+use Rattle.words.specs.Limits.{mostDegree, mostParts}
 use Rattle.lists.specs.declared.Found.{Found}
 use Rattle.lists.specs.declared.Found.the-variants.{At}
 use Rattle.lists.specs.Search.{isFound}
@@ -74,11 +75,16 @@ pub record Steppable (table stack : List ℕ) (top : ℕ) : Type 0 where
   pub room : top + 3 ≤ stackPlaces
   pub part : getD stack (top - 1) 0 < mostParts
 
--- one step of a walk: the part on top of the stack is taken off; if it is left, it is taken out there, and its neighbours are put on the stack
-pub record Stepped (table : List ℕ) (left : List Bool) (stack : List ℕ) (top : ℕ) (left' : List Bool) (stack' : List ℕ) (top' : ℕ) : Type 0 where
-  pub places : length stack' ≡ length stack
-  pub content : fromTop stack' top' ≡ cond (getD left (getD stack (top - 1) 0) false) (neighboursIn table (getD stack (top - 1) 0) ++ fromTop stack (top - 1)) (fromTop stack (top - 1))
-  pub flags : left' ≡ cond (getD left (getD stack (top - 1) 0) false) (set left (getD stack (top - 1) 0) false) left
+-- one step of a walk: the part on top of the stack is taken off; if it is left, it is taken out there, and its neighbours are put on the
+-- stack
+pub record Stepped (table : List ℕ) (left : List Bool) (stack : List ℕ) (top : ℕ) (left' : List Bool) (stack' : List ℕ) (top' : ℕ) : Type 0
+  where
+    pub places : length stack' ≡ length stack
+    pub content :
+        fromTop stack' top'
+        ≡ cond (getD left (getD stack (top - 1) 0) false)
+        (neighboursIn table (getD stack (top - 1) 0) ++ fromTop stack (top - 1)) (fromTop stack (top - 1))
+    pub flags : left' ≡ cond (getD left (getD stack (top - 1) 0) false) (set left (getD stack (top - 1) 0) false) left
 
 -- A part of a set that has no path to t inside the set, or nothing where the set's parts are joined to each other.
 pub record CutOff (list among : List ℕ) (found : Found) : Type 0 where

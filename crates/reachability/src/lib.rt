@@ -11,7 +11,7 @@ pub mod walk;
 
 ghost use mathlib.Core.Path.{_≡_};
 ghost use lib.ListN.{length};
-ghost use Rattle.words.specs.Limits.{stackPlaces};
+ghost use Rattle.words.specs.Rooms.{stackPlaces};
 ghost use Rattle.station.specs.Station.{stationOf};
 ghost use Rattle.order.specs.Reach.{check9, check10};
 ghost use Rattle.reachability.specs.Tables.{Adjacent};

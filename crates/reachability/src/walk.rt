@@ -11,14 +11,16 @@ ghost use mathlib.Core.Path.{_≡_};
 ghost use mathlib.Core.Bool.{false};
 ghost use Prim.Native.Nat.{_+_, _<_, _≤_};
 ghost use lib.ListN.{length, getD};
-ghost use Rattle.words.specs.Limits.{mostDegree, mostParts, stackPlaces};
+ghost use Rattle.words.specs.Limits.{mostDegree, mostParts};
+ghost use Rattle.words.specs.Rooms.{stackPlaces};
 ghost use Rattle.lists.specs.Search.{seek};
 ghost use Rattle.lists.specs.Select.{without};
 ghost use Rattle.station.specs.Station.{stationOf};
 ghost use Rattle.order.specs.Reach.{unreached};
 ghost use Rattle.reachability.specs.Tables.{neighboursIn, TableFits, Adjacent, setOf, Pushed, Steppable, Stepped, CutOff};
 
-// The parts that a walk is still to visit. It is lent, since to clear one for each walk would take longer than most walks; what it holds counts for nothing.
+// The parts that a walk is still to visit. It is lent, since to clear one for each walk would take longer than most walks; what it holds
+// counts for nothing.
 pub type Stack = [u16; STACK_PLACES];
 
 // The neighbours of p put on the stack, the first on top. The stack's height after it.
@@ -62,7 +64,8 @@ pub fn walk_from(
     requires { ⌜ Adjacent (now list) (now table) ⌝ }
     requires { ⌜ p .0 < stationOf (now list) .parts ⌝ }
     requires { ⌜ length (now stack) ≡ stackPlaces ⌝ }
-    ensures { λ r. ⌜ setOf (now (list .entry)) r ≡ unreached (stationOf (now (list .entry)) .cables) (setOf (now (list .entry)) set) (p .0) ⌝ }
+    ensures { λ r. ⌜ setOf (now (list .entry)) r
+        ≡ unreached (stationOf (now (list .entry)) .cables) (setOf (now (list .entry)) set) (p .0) ⌝ }
     ensures { λ r. ⌜ length (now (stack .exit)) ≡ stackPlaces ⌝ }
 {
     let mut left = set;

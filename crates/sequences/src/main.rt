@@ -1,6 +1,7 @@
-// Makes stored sequences of operations on a list in a row, for the gate: standard input holds for each sequence the count of its row's words, the count of its operations, the row's words, and for each
-// operation four words: 0 for a proposal and 1 for a commit, the cable's two parts, and the version; each word most significant byte first. Printed are each operation's answer and, at the
-// end of a sequence, the row's words.
+// Makes stored sequences of operations on a list in a row, for the gate: standard input holds for each sequence the count of its row's
+// words, the count of its operations, the row's words, and for each operation four words: 0 for a proposal and 1 for a commit, the cable's
+// two parts, and the version; each word most significant byte first. Printed are each operation's answer and, at the end of a sequence, the
+// row's words.
 use checks::Verdict;
 use console::MOST_READ;
 use console::read_input;

@@ -1,4 +1,5 @@
--- The definitions that worked examples compute with, opened together: an example names `station-computing` on its unfolding line. Assumes nothing.
+-- The definitions that worked examples compute with, opened together: an example names `station-computing` on its unfolding line. Assumes
+-- nothing.
 use Rattle.station.specs.Station.{stationOf, cableOf, joins, degree}
 use Rattle.checks.specs.Checks.{orElse, firstRefusal, atWhen}
 use Rattle.station.specs.Checks.{check1, kindAt, misplaced, check2, check3, check4, outside, check5, check6, sameParts, repeated, check7, check8, listChecks}

@@ -49,7 +49,8 @@ check6 list = seek (λ i. eqb (firstOf (getD list i 0)) (secondOf (getD list i 0
 
 -- 'joins the same two parts .. either way round'
 unfoldable pub sameParts : ℕ → ℕ → Bool
-sameParts v w = (eqb (firstOf v) (firstOf w) && eqb (secondOf v) (secondOf w)) || (eqb (firstOf v) (secondOf w) && eqb (secondOf v) (firstOf w))
+sameParts v w =
+    (eqb (firstOf v) (firstOf w) && eqb (secondOf v) (secondOf w)) || (eqb (firstOf v) (secondOf w) && eqb (secondOf v) (firstOf w))
 
 -- the cable word at i joins the same two parts 'as an earlier one'
 unfoldable pub repeated : List ℕ → ℕ → Bool

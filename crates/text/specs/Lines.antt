@@ -1,4 +1,5 @@
--- Document 01: a sheet is printed 'a word a line in eight hexadecimal digits', a refusal as '`refused`, the number and the place, with single spaces, on one line'. Text is a list of ASCII codes. Assumes nothing.
+-- Document 01: a sheet is printed 'a word a line in eight hexadecimal digits', a refusal as '`refused`, the number and the place, with
+-- single spaces, on one line'. Text is a list of ASCII codes. Assumes nothing.
 use Prim.Native.Nat.{ℕ, zero, suc, _+_, _-_, _/_, _%_}
 use Prim.Native.Char.{code}
 use mathlib.Core.Bool.{cond}

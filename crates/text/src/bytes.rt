@@ -26,7 +26,8 @@ fn word_at(bytes: &[u8], at: usize) -> u32
 pub fn read_words(bytes: &[u8], words: &mut [u32]) -> usize
     requires { ⌜ length (now bytes) / 4 ≤ length (now words) ⌝ }
     ensures count { λ r. ⌜ r ≡ length (now (bytes .entry)) / 4 ⌝ }
-    ensures stored { λ r. ⌜ now (words .exit) ≡ wordsIn (now (bytes .entry)) ++ drop (length (now (bytes .entry)) / 4) (now (words .entry)) ⌝ }
+    ensures stored { λ r. ⌜ now (words .exit)
+        ≡ wordsIn (now (bytes .entry)) ++ drop (length (now (bytes .entry)) / 4) (now (words .entry)) ⌝ }
 {
     let count = bytes.len() / 4;
     let mut i = 0;

@@ -1,4 +1,5 @@
--- Taking apart what was made gives the fields back, and a made word has its kind, no spare bit and 32 bits. One law for each layout. Assumes nothing.
+-- Taking apart what was made gives the fields back, and a made word has its kind, no spare bit and 32 bits. One law for each layout.
+-- Assumes nothing.
 use Prim.Native.Nat.{ℕ, _<_, _^_, _≤_}
 use mathlib.Core.Path.{_≡_}
 use native.Mathlib.Omega.{arith}

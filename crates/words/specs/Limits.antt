@@ -1,4 +1,4 @@
--- The limits of document 01, those that follow from them, and the lengths of the tables that have room for every station within them. Assumes nothing.
+-- The limits of document 01, and those that follow from them. Assumes nothing.
 use Prim.Native.Nat.{ℕ, _+_, _*_, _-_, _/_}
 
 -- 'A station has 3 to 256 parts'
@@ -27,20 +27,3 @@ mostQuotedWords = mostWords + mostCables + 1
 -- the greatest number that 'two 12-bit fields' hold each
 abbrev pub mostField : ℕ
 mostField = 4095
-
--- room for the neighbours of each part
-abbrev pub neighbourPlaces : ℕ
-neighbourPlaces = mostDegree * mostParts
-
--- the adjacency table: the neighbours of each part, then the degree of each
-abbrev pub adjacencyPlaces : ℕ
-adjacencyPlaces = neighbourPlaces + mostParts
-
--- the stack of a walk, which puts its first part on it and then each part's neighbours in place of the part: a walk has at most 1 + 4n parts on it, and the
--- last ones put there are at most four
-abbrev pub stackPlaces : ℕ
-stackPlaces = neighbourPlaces + mostDegree
-
--- a table of the pairs of parts
-abbrev pub pairPlaces : ℕ
-pairPlaces = mostParts * mostParts

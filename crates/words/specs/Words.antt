@@ -1,4 +1,5 @@
--- Document 01, 'The words', the two kinds of request 2026-01 and the one of 2026-05: each kind of word made and taken apart, over ℕ. Assumes nothing.
+-- Document 01, 'The words', the two kinds of request 2026-01 and the one of 2026-05: each kind of word made and taken apart, over ℕ.
+-- Assumes nothing.
 use Prim.Native.Nat.{ℕ, _+_, _*_, _/_, _%_}
 
 -- 'The top four bits (31 to 28) are the kind.'

@@ -9,7 +9,8 @@ use Rattle.prices.specs.Quote.{cablePrice}
 use Rattle.prices.specs.Values.{longest}
 use Rattle.prices.proofs.Quotes.{Covered}
 use Rattle.ranking.specs.declared.Ranking.{Ranking}
-use Rattle.order.specs.Graph.{StGraph, Ranked}
+use Rattle.order.specs.Graph.{StGraph}
+use Rattle.order.specs.RankedGraphs.{Ranked}
 use Rattle.ranking.specs.Arrays.{graphIn}
 use Rattle.order.specs.Order.{rankIn}
 use Rattle.ranking.specs.Ranking.{namesIn, Inverse}

@@ -1,5 +1,5 @@
--- A drawing's words section by section: those of the parts from a part on, of the cables and of the lengths from a line on, one at a time, and all
--- sections stored under other numbers of the parts, which change the section of the parts alone. Assumes nothing.
+-- A drawing's words section by section: those of the parts from a part on, of the cables and of the lengths from a line on, one at a time,
+-- and all sections stored under other numbers of the parts, which change the section of the parts alone. Assumes nothing.
 use Prim.Native.Nat.{ℕ, suc, _+_, _<_, _≤_}
 use native.Mathlib.Omega.{arith}
 use native.Mathlib.Numerals.{add-one}

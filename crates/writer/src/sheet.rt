@@ -1,4 +1,5 @@
-// A sheet's words, one behind the other: 'its head, the parts by number, then the cables by line, each followed by its corners', as they are spaced (2026-06); then the lengths (2026-01).
+// A sheet's words, one behind the other: 'its head, the parts by number, then the cables by line, each followed by its corners', as they
+// are spaced (2026-06); then the lengths (2026-01).
 use drawing::spacing::Spacing;
 use drawing::spacing::space_spot;
 use geometry::Spot;

@@ -1,4 +1,4 @@
--- `editor::check_commit` meets its contract. Assumes nothing.
+-- `editing::check_commit` meets its contract. Assumes nothing.
 use native.Mathlib.Omega.{arith}
 use mathlib.Core.Path.{sym, ap, _∙_}
 use Rattle.checks.specs.declared.Verdict.the-variants.{Refused}

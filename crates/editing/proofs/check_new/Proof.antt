@@ -1,4 +1,4 @@
--- `editor::check_new` meets its contract. Assumes nothing.
+-- `editing::check_new` meets its contract. Assumes nothing.
 use native.Mathlib.Omega.{arith}
 use mathlib.Core.Path.{_≡_, sym, ap, _∙_}
 use lib.Seq.{length-take-le}

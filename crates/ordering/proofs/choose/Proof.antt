@@ -1,9 +1,10 @@
--- `ordering::choose` meets its contract. The invariant: no part before w is eligible, the witnesses are right, and the stack stays as long. Assumes nothing.
+-- `ordering::choose` meets its contract. The invariant: no part before w is eligible, the witnesses are right, and the stack stays as long.
+-- Assumes nothing.
 use Prim.Native.Nat.{_-_}
 use mathlib.Core.Path.{_≡_}
 use lib.ListN.{length}
 use borrow.Author.Needs.{needs}
-use Rattle.words.specs.Limits.{stackPlaces}
+use Rattle.words.specs.Rooms.{stackPlaces}
 use Rattle.lists.proofs.Seeking.{Seeking, seeking-start}
 use Rattle.ordering.specs.Choices.{Witnesses, eligible}
 use Rattle.station.proofs.Passed.{wired-words}

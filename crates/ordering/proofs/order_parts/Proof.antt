@@ -1,9 +1,10 @@
--- `ordering::order_parts` meets its contract. The loop's invariant is `Ordering`: the parts ranked so far, and the rest of the order from the unranked parts. Assumes nothing.
+-- `ordering::order_parts` meets its contract. The loop's invariant is `Ordering`: the parts ranked so far, and the rest of the order from
+-- the unranked parts. Assumes nothing.
 use Prim.Native.Nat.{_-_}
 use mathlib.Core.Path.{_≡_}
 use lib.ListN.{length}
 use borrow.Author.Needs.{needs}
-use Rattle.words.specs.Limits.{stackPlaces}
+use Rattle.words.specs.Rooms.{stackPlaces}
 use Rattle.station.proofs.Passed.{wired-words}
 use Rattle.ordering.proofs.PartsByRank.{Ordering, ordering-start, ordering-next, ordering-end, chosen-below}
 use Rattle.ordering.proofs.order_parts.Statement.{statement}

@@ -1,9 +1,10 @@
--- `reachability::cut_part` meets its contract. The invariant: no part before v cuts the others off, and the stack stays as long. Assumes nothing.
+-- `reachability::cut_part` meets its contract. The invariant: no part before v cuts the others off, and the stack stays as long. Assumes
+-- nothing.
 use Prim.Native.Nat.{_-_}
 use mathlib.Core.Path.{_≡_}
 use lib.ListN.{length}
 use borrow.Author.Needs.{needs}
-use Rattle.words.specs.Limits.{stackPlaces}
+use Rattle.words.specs.Rooms.{stackPlaces}
 use Rattle.lists.proofs.Seeking.{Seeking, seeking-start}
 use Rattle.station.proofs.Passed.{wired-words}
 use Rattle.reachability.proofs.Connected.{cuts, check10-next, check10-at, check10-none}

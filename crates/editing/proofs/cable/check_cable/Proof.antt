@@ -1,4 +1,4 @@
--- `editor::cable::check_cable` meets its contract: the first of checks 5 to 8 that the new cable fails. Assumes nothing.
+-- `editing::cable::check_cable` meets its contract: the first of checks 5 to 8 that the new cable fails. Assumes nothing.
 use native.Mathlib.Omega.{arith}
 use Prim.Native.Nat.{_<_}
 use mathlib.Core.Path.{_≡_, sym, _∙_}

@@ -1,4 +1,4 @@
--- `editor::cable::crowded_end` meets its contract: the lower part first. Assumes nothing.
+-- `editing::cable::crowded_end` meets its contract: the lower part first. Assumes nothing.
 use Prim.Native.Nat.{min, max}
 use native.Mathlib.Omega.{arith}
 use mathlib.Core.Path.{_≡_, sym, ap, _∙_}

@@ -1,4 +1,4 @@
--- `editor::cable::is_outside` meets its contract. Assumes nothing.
+-- `editing::cable::is_outside` meets its contract. Assumes nothing.
 use native.Mathlib.Omega.{arith}
 use Rattle.editor.proofs.Tests.{outside-one, outside-other}
 use Rattle.editing.proofs.cable.is_outside.Statement.{statement}

@@ -1,4 +1,4 @@
--- `editor::cable::is_repeated` meets its contract: a search from 2 on. Assumes nothing.
+-- `editing::cable::is_repeated` meets its contract: a search from 2 on. Assumes nothing.
 use Prim.Native.Nat.{_≤_, _-_}
 use mathlib.Core.Path.{_≡_, refl, sym, ap, _∙_}
 use native.Mathlib.Omega.{arith}

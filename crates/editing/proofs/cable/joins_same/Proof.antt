@@ -1,4 +1,4 @@
--- `editor::cable::joins_same` meets its contract. Assumes nothing.
+-- `editing::cable::joins_same` meets its contract. Assumes nothing.
 use native.Mathlib.Omega.{arith}
 use Rattle.editor.proofs.Tests.{same-straight, same-turned, same-neither}
 use borrow.Author.Needs.{needs}

@@ -1,4 +1,4 @@
--- `editor::list::cables_present` meets its contract. Assumes nothing.
+-- `editing::list::cables_present` meets its contract. Assumes nothing.
 use Rattle.editor.specs.Rows.{present}
 use borrow.Author.Needs.{needs}
 use Rattle.editing.proofs.list.cables_present.Statement.{statement}

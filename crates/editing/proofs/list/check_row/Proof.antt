@@ -1,4 +1,4 @@
--- `editor::list::check_row` meets its contract. Assumes nothing.
+-- `editing::list::check_row` meets its contract. Assumes nothing.
 use native.Mathlib.Omega.{arith}
 use mathlib.Core.Path.{sym, ap, _∙_}
 use lib.Seq.{length-take-le}

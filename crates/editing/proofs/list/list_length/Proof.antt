@@ -1,4 +1,4 @@
--- `editor::list::list_length` meets its contract. Assumes nothing.
+-- `editing::list::list_length` meets its contract. Assumes nothing.
 use native.Mathlib.Omega.{arith}
 use Rattle.editor.proofs.Rows.{length-is}
 use borrow.Author.Needs.{needs}

@@ -1,4 +1,4 @@
--- `editor::list::store_cable` meets its contract. Assumes nothing.
+-- `editing::list::store_cable` meets its contract. Assumes nothing.
 use native.Mathlib.Omega.{arith}
 use mathlib.Core.Path.{refl}
 use lib.ListN.{length-set}

@@ -7,7 +7,7 @@ use borrow.Author.Needs.{needs}
 use lib.ListN.{length, getD}
 use Rattle.lists.specs.Search.{seek}
 use Rattle.lists.proofs.Search.{seek-at, seek-next, seek-end}
-use Rattle.words.specs.Limits.{pairPlaces}
+use Rattle.words.specs.Rooms.{pairPlaces}
 use Rattle.station.specs.Checks.{repeated, check7}
 use Rattle.station.proofs.Each.{two-words}
 use Rattle.listing.proofs.Repeats.{Table, Below, below, index-below, table-start, table-more, table-says}

@@ -1,4 +1,5 @@
--- `reachability::walk::cut_off_in` meets its contract. The walk's first part is cut off from t, or else the lowest part that the walk does not reach. Assumes nothing.
+-- `reachability::walk::cut_off_in` meets its contract. The walk's first part is cut off from t, or else the lowest part that the walk does
+-- not reach. Assumes nothing.
 use borrow.Author.Needs.{needs}
 use Rattle.station.proofs.Passed.{wired-words}
 use Rattle.reachability.proofs.Separation.{found-inside, found-fits, cut-none, cut-start, cut-other}

@@ -1,4 +1,5 @@
--- `reachability::walk::walk_from` meets its contract. The loop's invariant is `Walking`; each step takes one off the cable ends of what is left with the stack's height. Assumes nothing.
+-- `reachability::walk::walk_from` meets its contract. The loop's invariant is `Walking`; each step takes one off the cable ends of what is
+-- left with the stack's height. Assumes nothing.
 use Prim.Native.Nat.{_+_}
 use lib.ListN.{getD}
 use borrow.Author.Needs.{needs}
