@@ -1,4 +1,5 @@
-/* A list that grows cable by cable in a row, with a cable that is refused and a proposal that comes too late, and its sheet: examples/link builds and runs it. */
+/* A list that grows cable by cable in a row, with a cable that is refused and a proposal that comes too late, and
+   its sheet: examples/link builds and runs it. */
 #include <stdio.h>
 #include "dovranis.h"
 

@@ -1,4 +1,5 @@
-/* A list as an array, one call with a discount and one for print, and each sheet or its refusal in words: examples/link builds and runs it. */
+/* A list as an array, one call with a discount and one for print, and each sheet or its refusal in words:
+   examples/link builds and runs it. */
 #include <stdio.h>
 #include "dovranis.h"
 

@@ -64,7 +64,7 @@ fn set_last(f: Incident, line: usize) -> Incident
 
 // The outgoing cables of rank k. Only s may have four: 'the one to the second-ranked part leaves downward', and 'the other three go left,
 // own, right by rising rank'.
-pub fn outgoing(graph: Graph, k: Rank) -> Incident
+pub fn outgoing_cables(graph: Graph, k: Rank) -> Incident
     requires { ⌜ GraphFits graph ⌝ }
     ensures { λ r. ⌜ Holds (upper (graphIn graph)) r (outgoing (graphIn graph) (k .0)) ⌝ }
 {
@@ -77,7 +77,7 @@ pub fn outgoing(graph: Graph, k: Rank) -> Incident
 
 // The incoming cables of rank k. Only t may have four: 'the cable from the last-ranked part but one climbs over the top', and 'the other
 // three .. come in left, below and right'.
-pub fn incoming(graph: Graph, cables: [u16; MOST_CABLES], k: Rank) -> Incident
+pub fn incoming_cables(graph: Graph, cables: [u16; MOST_CABLES], k: Rank) -> Incident
     requires { ⌜ GraphFits graph ⌝ }
     ensures { λ r. ⌜ Holds (at (take (graph .cables) cables)) r (incoming (graphIn graph) (take (graph .cables) cables) (k .0)) ⌝ }
 {

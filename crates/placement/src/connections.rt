@@ -1,8 +1,8 @@
 // The bottom and the top connection, and the rows that they take.
 use crate::Columns;
 use incidence::incident::fourth_or;
-use incidence::sequence::incoming;
-use incidence::sequence::outgoing;
+use incidence::sequence::incoming_cables;
+use incidence::sequence::outgoing_cables;
 use lists::one_if;
 use ranking::Graph;
 use words::Rank;
@@ -26,7 +26,7 @@ fn bottom_line(graph: Graph) -> usize
     requires { ⌜ GraphFits graph ⌝ }
     ensures { λ r. ⌜ r ≡ bottomLine (graphIn graph) ⌝ }
 {
-    fourth_or(outgoing(graph, Rank::of(0)), graph.cables)
+    fourth_or(outgoing_cables(graph, Rank::of(0)), graph.cables)
 }
 
 // 'the cable from the last-ranked part but one climbs over the top': the line at the top connection, or the count of lines where t has
@@ -37,7 +37,7 @@ fn top_line(graph: Graph, columns: Columns) -> usize
 {
     let cables = columns.cables;
     let last = Rank::of((graph.parts - 1) as u16);
-    fourth_or(incoming(graph, cables, last), graph.cables)
+    fourth_or(incoming_cables(graph, cables, last), graph.cables)
 }
 
 // 'Let d be 1 if s has four cables and 0 otherwise, and e the same for t': exactly then there is a connection.

@@ -1,8 +1,8 @@
 // The columns of cables and parts, rank by rank.
 use crate::Columns;
 use incidence::incident::Incident;
-use incidence::sequence::incoming;
-use incidence::sequence::outgoing;
+use incidence::sequence::incoming_cables;
+use incidence::sequence::outgoing_cables;
 use ports::figures::Placement;
 use ports::figures::Port;
 use ports::figures::placement_of;
@@ -134,8 +134,8 @@ fn add_rank(graph: Graph, k: Rank, columns: Columns) -> Columns
 {
     let cables = columns.cables;
     let parts = columns.parts;
-    let outs = outgoing(graph, k);
-    let placement = placement_of(incoming(graph, cables, k), outs.count);
+    let outs = outgoing_cables(graph, k);
+    let placement = placement_of(incoming_cables(graph, cables, k), outs.count);
     Columns {
         cables: cables_after(graph.cables, outs, placement, cables),
         parts: parts_after(placement, k, parts),

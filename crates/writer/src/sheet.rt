@@ -23,7 +23,16 @@ ghost use Rattle.words.specs.Words.{cornerWord};
 ghost use Rattle.ranking.specs.Ranking.{Inverse};
 ghost use Rattle.drawing.specs.Drawing.{spotOf};
 ghost use Rattle.drawing.specs.Spacing.{spacedSpot, spaced};
-ghost use Rattle.drawing.specs.Sheet.{partSpotWord, cornerSpotWord, routeWords, headSection, partsSection, cablesSection, lengthsSection, sheetWords};
+ghost use Rattle.drawing.specs.Sheet.{
+  partSpotWord,
+  cornerSpotWord,
+  routeWords,
+  headSection,
+  partsSection,
+  cablesSection,
+  lengthsSection,
+  sheetWords,
+};
 ghost use Rattle.layout.specs.Points.{cornersOf};
 ghost use Rattle.placement.specs.Arrays.{courseIn, IsLayout, layoutIn};
 ghost use Rattle.layout.specs.Courses.{CourseFits};

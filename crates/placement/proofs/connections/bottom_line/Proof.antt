@@ -9,16 +9,16 @@ use Rattle.placement.proofs.connections.bottom_line.Tie as tie
 of-requires : tie.Need-of-requires
 of-requires c κs = search needs
 
-outgoing-requires : tie.Need-outgoing-requires
-outgoing-requires c κs = search needs
+outgoing-cables-requires : tie.Need-outgoing-cables-requires
+outgoing-cables-requires c κs = search needs
 
 fourth-or-requires : tie.Need-fourth-or-requires
-fourth-or-requires c κs = outs-four (c .before .before .pre .ranked) _ (c .outgoing .ensures)
+fourth-or-requires c κs = outs-four (c .before .before .pre .ranked) _ (c .outgoing-cables .ensures)
 
 returns : tie.Need-returns
 returns c =
     let s = c .before .before .before in
-    bottom-reads (s .pre .ranked) (c .before .before .of .ensures) (c .before .outgoing .ensures) (lines-count (s .pre) (s .good .0)) (c .fourth-or .ensures)
+    bottom-reads (s .pre .ranked) (c .before .before .of .ensures) (c .before .outgoing-cables .ensures) (lines-count (s .pre) (s .good .0)) (c .fourth-or .ensures)
 
 pub bottom-line-spec : {M : Type 1} → statement M
-bottom-line-spec = tie.close (tie.spec of-requires outgoing-requires fourth-or-requires returns)
+bottom-line-spec = tie.close (tie.spec of-requires outgoing-cables-requires fourth-or-requires returns)

@@ -16,20 +16,20 @@ cast-of c = search needs
 of-requires : tie.Need-of-requires
 of-requires c κs = search needs
 
-incoming-requires : tie.Need-incoming-requires
-incoming-requires c κs = search needs
+incoming-cables-requires : tie.Need-incoming-cables-requires
+incoming-cables-requires c κs = search needs
 
 fourth-or-requires : tie.Need-fourth-or-requires
 fourth-or-requires c κs =
     let s = c .before .before .before .before in
-    ins-four (s .pre .ranked) (take (s .args .graph .cables) (s .args .columns .cables)) _ (c .incoming .ensures)
+    ins-four (s .pre .ranked) (take (s .args .graph .cables) (s .args .columns .cables)) _ (c .incoming-cables .ensures)
 
 returns : tie.Need-returns
 returns c =
     let s = c .before .before .before .before .before in
-    top-reads (s .pre .ranked) (take (s .args .graph .cables) (s .args .columns .cables)) (c .before .before .of .ensures) (c .before .incoming .ensures)
+    top-reads (s .pre .ranked) (take (s .args .graph .cables) (s .args .columns .cables)) (c .before .before .of .ensures) (c .before .incoming-cables .ensures)
     (lines-count (s .pre) (s .good .0)) (c .fourth-or .ensures)
 
 pub top-line-spec : {M : Type 1} → statement M
 top-line-spec =
-    tie.close (tie.spec sub-of cast-of of-requires incoming-requires fourth-or-requires returns)
+    tie.close (tie.spec sub-of cast-of of-requires incoming-cables-requires fourth-or-requires returns)
