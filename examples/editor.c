@@ -36,7 +36,7 @@ int main(void)
     size_t words = 0, crossings = 0, place = 0, i;
     struct dovranis_proposal first = {0, 0, 0}, second = {0, 0, 0};
     int wrong = propose(&first, 0, 1) || commit(first);
-    wrong |= !propose(&second, 1, 0);                   /* these two are joined: 7 */
+    wrong |= !propose(&second, 1, 1);                   /* a part and itself: 6 */
     wrong |= propose(&second, 1, 2) || commit(second);
     wrong |= !commit(first);                            /* there are two cables now: 15 */
     wrong |= propose(&second, 0, 2) || commit(second);

@@ -7,7 +7,7 @@ static const char *const refusals[] = {
     "", "the list has fewer than two words", "a word's kind or spare bits are wrong, word",
     "the list should have another count of words, namely", "the count of parts is not 3 to 256, but",
     "a part number is too large, word", "two ends are the same part, word",
-    "two parts are joined again, word", "a part has more than four cables, part",
+    "" /* 7 is empty */, "a part has more than four cables, part",
     "part 0 doesn't reach a part, part", "a part's removal cuts the station, part",
     "the output is too short, words of the sheet", "the discount is above 10,000, namely",
     "the column pitch (0), the row pitch (1) or the margin (2) is out of range, namely",

@@ -31,10 +31,11 @@
  *   10    total length  grid steps of all cables in bits 27 to 0
  *   0     price         cents, of a cable or of all cables, in bits 27 to 0
  *
- * A list is one head, one ends word and m cables. Parts are numbered from 0, and so are the lines of the cables. A
- * sheet is its head, the parts by number, the cables by line, each followed by its corners from the lower-ranked end
- * upward, then the lengths by line and their total. A call that is given a discount ends it with the bill: the prices
- * by line and their total. x is counted from the left and y from the bottom, both from 0.
+ * A list is one head, one ends word and m cables. Parts are numbered from 0, and so are the lines of the cables.
+ * Several cables may join the same two parts, named either way round; they are told apart by their lines. A sheet is
+ * its head, the parts by number, the cables by line, each followed by its corners from the lower-ranked end upward,
+ * then the lengths by line and their total. A call that is given a discount ends it with the bill: the prices by line
+ * and their total. x is counted from the left and y from the bottom, both from 0.
  *
  *
  * RESULTS AND CHECKS
@@ -51,7 +52,7 @@
  *   4       n below 3 or above 256                                                        n
  *   5       a part number n or more                                                       first such word
  *   6       source equals analyser, or a cable joins a part to itself                     first such word
- *   7       a cable joins the same two parts as an earlier one, either way round          first such later word
+ *   7       none: the number is empty
  *   8       a part with more than four cables                                             lowest such part
  *   9       a part that part 0 doesn't reach                                              lowest such part
  *   10      a part whose removal leaves two others without a path                         lowest such part
@@ -68,8 +69,8 @@
  *   dovranis_draw_quoted          12,     1 to 10,     11
  *   dovranis_draw_spaced              13, 1 to 10, 14, 11
  *   dovranis_draw_quoted_spaced   12, 13, 1 to 10, 14, 11
- *   dovranis_propose              1 to 8 of the list in the row,     5 to 8 of the new cable, 16
- *   dovranis_commit               1 to 8 of the list in the row, 15, 5 to 8 of the new cable, 16
+ *   dovranis_propose              1 to 8 of the list in the row,     5, 6 and 8 of the new cable, 16
+ *   dovranis_commit               1 to 8 of the list in the row, 15, 5, 6 and 8 of the new cable, 16
  *
  *
  * WHAT HOLDS OF EVERY SHEET
@@ -78,10 +79,17 @@
  * discount is given, with no word more. No two parts share a spot, and by rising row they are the smallest st-ordering
  * from source to analyser. Each cable is level and upright runs in turn from one of its two parts to the other. It does
  * not touch itself or a part that it doesn't join, and its own parts only with its ends. Any two cables have at most
- * one crossing, and any other spot that they share is that of a part that both join. There are at most 2m - 2n + 4
- * corners, and no cable has more than two. On the grid the width is m - n + 1 and the height at most n + 1. A cable's
- * length is the summed distance between the neighbouring points of its line on the grid, at most 3n + 5, and the total
- * is the sum of all lengths. All this is said of the words that the call leaves in the output, in every spacing.
+ * one crossing, and any other spot that they share is that of a part that both join; this holds of two cables between
+ * the same two parts as well. There are at most 2m - 2n + 4 corners. On the grid the width is m - n + 1 and the height
+ * at most n + 1. A cable's length is the summed distance between the neighbouring points of its line on the grid, at
+ * most 3n + 5, and the total is the sum of all lengths. All this is said of the words that the call leaves in the
+ * output, in every spacing.
+ *
+ * No cable has more than two corners where the two lowest ranks are not joined more than once, and the two highest
+ * neither: the first two parts and the last two by rising row. On every other sheet at most two cables have more than
+ * two corners, and these have three. They are the bottom connection, which leaves a source of four cables downward, the
+ * lowest line of those to the second part; and the top connection, which climbs over an analyser of four cables, the
+ * lowest line of those from the last part but one (`ManyBends` and `Bends` in crates/drawing/specs/Sizes.antt).
  *
  *
  * MEMORY, AND WHAT THE CALLER SEES TO
@@ -221,11 +229,11 @@ struct dovranis_proposal {
  *
  * First the list in the row is checked as it is, by 1 to 8: a row of fewer than two words gets 1, and any other of
  * fewer than m + 2 words gets 2 where a word of it is wrong, and else 3. Then the cable gets what the list with this
- * cable as its last word, word m + 2, would get (`among-5-to-8` in crates/editor/proofs/Verdicts.antt): 5 at m + 2
- * where a part number is n or more, however large; 6 at m + 2 where the two are equal; 7 at m + 2 where a cable of the
- * list joins the two, either way round; 8 at the lowest of the two that has four cables in the list. Last comes 16. On
- * a row of the same words the proposal is committed (`fresh-commits` in crates/editor/proofs/Effects.antt). The result,
- * and all that is stored, depends on the list in the row, on row_count and on the two part numbers alone.
+ * cable as its last word, word m + 2, would get (`among-5-6-8` in crates/editor/proofs/Verdicts.antt): 5 at m + 2 where
+ * a part number is n or more, however large; 6 at m + 2 where the two are equal; 8 at the lowest of the two that has
+ * four cables in the list. That cables of the list join the two already is no refusal. Last comes 16. On a row of the
+ * same words the proposal is committed (`fresh-commits` in crates/editor/proofs/Effects.antt). The result, and all that
+ * is stored, depends on the list in the row, on row_count and on the two part numbers alone.
  */
 uint32_t dovranis_propose(const uint32_t *row, size_t row_count, uint32_t one, uint32_t other,
                           uint32_t *version, size_t *place);

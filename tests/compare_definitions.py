@@ -5,10 +5,10 @@
                                                             58 parts, the shortest that check 14 can refuse (default 300, 1, 4, 1)
   compare_definitions.py --editor [COUNT [SEED]]            COUNT operations of the editor in random runs (default 400, 1)
 
-Every list is stated with a length of output, a third of them with a discount and half of them with a spacing, as an equation of
-`outcome`, the definition at the top, with all words, counts, numbers and places that reference.py gives, and proved by computation
-in a copy of the crates. An operation of the editor is stated as an equation of `proposed`, or of `effect` with the row that it
-leaves. It is no part of the gate."""
+Of the lists that are drawn some third has repeated cables. Every list is stated with a length of output, a third of them with a
+discount and half of them with a spacing, as an equation of `outcome`, the definition at the top, with all words, counts, numbers
+and places that reference.py gives, and proved by computation in a copy of the crates. An operation of the editor is stated as an
+equation of `proposed`, or of `effect` with the row that it leaves. It is no part of the gate."""
 import os
 import random
 import re
@@ -166,7 +166,9 @@ def main(a):
         text += ['', 'case-%d : outcome %s %s %d ≡ %s' % (k, options(*given[k]), numbers(words), room, right), 'unfolding ' + opened, 'case-%d = refl' % k]
     # what only the code's contracts cite goes with the code
     wrong, output = checked('hookup', text, struct_given, ['Answer'])
-    print('%d lists, %d with a discount, %d with a spacing (%s)' % (len(cases), *(sum(k is not None for k in some) for some in (discounts, spacings)), ', '.join('%d %s' % (v, 'drawn' if c == 0 else 'refused by %d' % c) for c, v in sorted(tally.items()))))
+    print('%d lists, %d with repeated cables, %d with a discount, %d with a spacing (%s)' % (
+        len(cases), sum(map(lists.has_repeats, cases)), *(sum(k is not None for k in some) for some in (discounts, spacings)),
+        ', '.join('%d %s' % (v, 'drawn' if c == 0 else 'refused by %d' % c) for c, v in sorted(tally.items()))))
     return told(wrong, output, lambda k: '%s %s' % (options(*given[k]), ' '.join('%08x' % w for w in cases[k])))
 
 

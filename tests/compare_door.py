@@ -181,12 +181,14 @@ def million(rng):
         yield out
     yield [0] * count
     yield [rng.getrandbits(32) for _ in range(count)]
-    # 65,537 words: a part number that is too large, and a cable from a part to itself, in the last word; then all pairs of 256 parts and each once more
+    # 65,537 words: a part number that is too large, and a cable from a part to itself, in the last word; then all pairs of
+    # 256 parts and each once more, and all cables between the last two parts
     full = [lists.head(256, 65535)] + right[1:65537]
     yield full[:-1] + [lists.cable(0, 256)]
     yield full[:-1] + [lists.cable(255, 255)]
     pairs = sorted(lists.complete(256)[1])
     yield lists.build(256, 0, 1, (pairs + pairs + pairs)[:65535])
+    yield lists.build(256, 0, 1, 65535 * [(254, 255)])
 
 
 def main(a):

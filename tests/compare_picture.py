@@ -313,6 +313,8 @@ WORKED = [
 
 def stations(count, rng):
     yield from WORKED
+    for name, (text, _, _, _) in reference.REPEATS.items():
+        yield name, reference.hexes(text)
     for name, words in lists.boundaries():
         if name.startswith('sheet') and ('cables at s' in name or '256 parts' in name):
             yield name, words

@@ -118,6 +118,44 @@ def long_cable(n):
                         (3, n - 2), (4, n - 2), (n - 3, t), (n - 2, t)}
 
 
+# Stations with repeated cables, as (n, row of sorted pairs).
+
+def doubled(n, cables):
+    """Each cable twice; at most two of the others at a part."""
+    return n, sorted(2 * list(cables))
+
+
+def triple_ring(n):
+    """A ring with every other cable there three times: four cables at each part; n is
+    even and 4 or more."""
+    return n, sorted(list(ring(n)[1]) + 2 * [(p, p + 1) for p in range(0, n, 2)])
+
+
+def pair_chain(n):
+    """Two cables from each part to the next, and one between the first and the last."""
+    return n, sorted(2 * [(p, p + 1) for p in range(n - 1)] + [(0, n - 1)])
+
+
+def pair_ladder(high):
+    """A ladder with two cables for each rung."""
+    n, cables = grid(2, high)
+    return n, sorted(list(cables) + [(p, p + 1) for p in range(0, n, 2)])
+
+
+def repeated(rng, n, cables):
+    """More cables between parts that are joined, as long as neither has four: up to
+    three, or as many as are found."""
+    out, count = list(cables), degrees(n, cables)
+    most = len(out) + rng.choice([1, 2, 3, n, 2 * n])
+    for a, b in rng.sample(sorted(cables), len(cables)):
+        for _ in range(rng.choice([1, 1, 2])):
+            if len(out) < most and max(count[a], count[b]) < 4:
+                out.append((a, b))
+                count[a] += 1
+                count[b] += 1
+    return n, sorted(out)
+
+
 def ears(rng, n):
     """A ring, then ears until all n parts are in, then single cables; each step
     leaves no cut part."""
@@ -190,6 +228,17 @@ def some_graph(rng, n):
     return rng.choice(makers)(rng, n)
 
 
+def some_station(rng, n):
+    """A station as (n, row of sorted pairs); a third has repeated cables."""
+    if rng.random() < 0.05:
+        makers = [lambda: doubled(*ring(n)), lambda: pair_chain(n)]
+        if n >= 4 and n % 2 == 0:
+            makers += [lambda: triple_ring(n), lambda: pair_ladder(n // 2)]
+        return rng.choice(makers)()
+    n, cables = some_graph(rng, n)
+    return repeated(rng, n, cables) if rng.random() < 0.4 else (n, sorted(cables))
+
+
 def listed(rng, n, cables, s, t, shuffled=True):
     """The list of a station, its numbers, lines and directions shuffled."""
     number = list(range(n))
@@ -203,20 +252,20 @@ def listed(rng, n, cables, s, t, shuffled=True):
 
 
 def drawn(rng, n_min=3, n_max=40):
-    """A list that passes checks 1 to 10, with n_min to n_max parts. The counts
-    of cables at s and t, and whether one cable joins s to t, are chosen first;
-    where no station of that shape turns up, any station will do."""
+    """A list that passes checks 1 to 10, with n_min to n_max parts; a third has
+    repeated cables. The counts of cables at s and t, and whether a cable joins s to
+    t, are chosen first; where no station of that shape turns up, any station will do."""
     n = rng.randint(n_min, n_max)
     at_s, at_t = rng.choice((2, 3, 4)), rng.choice((2, 3, 4))
     joined = rng.random() < 0.4
     for _ in range(25):
-        n, cables = some_graph(rng, n)
-        count = degrees(n, cables)
+        n, cables = some_station(rng, n)
+        count, pairs = degrees(n, cables), set(cables)
         if joined:
-            rows = [(a, b) for c in sorted(cables) for a, b in (c, c[::-1])]
+            rows = [(a, b) for c in sorted(pairs) for a, b in (c, c[::-1])]
         else:
             rows = [(a, b) for a in range(n) for b in range(n)
-                    if a != b and pair(a, b) not in cables]
+                    if a != b and pair(a, b) not in pairs]
         rows = [(a, b) for a, b in rows if (count[a], count[b]) == (at_s, at_t)]
         if rows:
             s, t = rng.choice(rows)
@@ -226,13 +275,28 @@ def drawn(rng, n_min=3, n_max=40):
     return listed(rng, n, cables, s, t, rng.random() < 0.85)
 
 
+def has_repeats(words):
+    """Whether two cables of a list join the same two parts."""
+    cables = [pair(w >> 12 & 0xfff, w & 0xfff) for w in words[2:]]
+    return len(set(cables)) < len(cables)
+
+
+def paired(rng, n_min=3, n_max=40):
+    """As `drawn`, with repeated cables."""
+    while True:
+        words = drawn(rng, n_min, n_max)
+        if has_repeats(words):
+            return words
+
+
 def large(rng):
     """A list of 256 parts."""
     n, cables = rng.choice([
         lambda: ring(256), lambda: grid(2, 128), lambda: grid(16, 16), lambda: grid(4, 64),
         lambda: torus(16, 16), lambda: second_neighbours(256),
         lambda: four_regular(rng, 256), lambda: ears(rng, 256),
-        lambda: bundle(rng, 256, 4)])()
+        lambda: bundle(rng, 256, 4), lambda: doubled(*ring(256)), lambda: triple_ring(256),
+        lambda: pair_ladder(128), lambda: repeated(rng, *ears(rng, 256))])()
     s, t = rng.sample(range(n), 2)
     return listed(rng, n, cables, s, t, rng.random() < 0.7)
 
@@ -335,14 +399,15 @@ def turned(word):
     return word & 0xff000000 | (word & 0xfff) << 12 | word >> 12 & 0xfff
 
 
-def fault_7(rng, words):
+def repeat(rng, words):
+    """Cables once more, behind the others or in place of one: no fault by itself, but a
+    part may then have too many cables, or another too few."""
     if len(words) < 3:
         return list(words)
     again = [rng.choice([w, turned(w)]) for w in rng.sample(words[2:], rng.choice([1, 1, 2]))
              ] if len(words) > 3 else [words[2]]
     if rng.random() < 0.5:
         return grown(words, again)
-    # In place of a cable, so that earlier ones may be the repetition.
     out = list(words)
     out[rng.randrange(2, len(out))] = again[0]
     return out
@@ -353,54 +418,56 @@ def fault_8(rng, words):
         return list(words)
     n = max(3, words[0] >> 16 & 0xfff)
     p = rng.randrange(n)
-    have = {(w >> 12 & 0xfff, w & 0xfff) for w in words[2:]}
-    free = [q for q in range(n) if q != p and (p, q) not in have and (q, p) not in have]
+    free = [q for q in range(n) if q != p]
     rng.shuffle(free)
+    if rng.random() < 0.3:
+        free = 4 * free[:rng.choice([1, 2])]
     extra = []
     for q in free[:rng.choice([1, 2, 3, 4])]:
         extra.append(cable(*rng.choice([(p, q), (q, p)])))
     return grown(words, extra)
 
 
-FAULTS = [fault_1, fault_2, fault_3, fault_4, fault_5, fault_6, fault_7, fault_8]
+# 7 is the number of no check.
+FAULTS = [fault_1, fault_2, fault_3, fault_4, fault_5, fault_6, repeat, fault_8]
 
 
 def apart(rng):
     """Check 9: two stations side by side, or parts without a cable."""
-    n, cables = some_graph(rng, rng.randint(3, 12))
+    n, cables = some_station(rng, rng.randint(3, 12))
     size = rng.choice([1, 1, 2, 3, 5])
     if size >= 3:
-        more = some_graph(rng, size)[1]
+        more = some_station(rng, size)[1]
     elif size == 2:
-        more = {(0, 1)}
+        more = rng.choice([1, 1, 2, 3, 4]) * [(0, 1)]
     else:
-        more = set()
-    cables = cables | {(a + n, b + n) for a, b in more}
+        more = []
+    cables = cables + [(a + n, b + n) for a, b in more]
     n += size
     s, t = rng.sample(range(n), 2)
     return listed(rng, n, cables, s, t)
 
 
 def cut(rng):
-    """Check 10: two stations with one part or one cable between them, or a
-    part that hangs on one cable; at most four cables at a part."""
+    """Check 10: two stations with one part, one cable or a pair between them, or a
+    part that hangs on one cable or a pair; at most four cables at a part."""
     while True:
-        n, cables = some_graph(rng, rng.randint(3, 12))
-        k, more = some_graph(rng, rng.randint(3, 8))
+        n, cables = some_station(rng, rng.randint(3, 12))
+        k, more = some_station(rng, rng.randint(3, 8))
         a, b = rng.randrange(n), rng.randrange(k)
-        way = rng.randrange(3)
+        way, times = rng.randrange(3), rng.choice([1, 1, 2])
         if way == 0:
             place = [n + q for q in range(k)]
             place[b] = a
             place = [q if q <= n + b else q - 1 for q in place]
-            cables = cables | {pair(place[p], place[q]) for p, q in more}
+            cables = cables + [pair(place[p], place[q]) for p, q in more]
             n += k - 1
         elif way == 1:
-            cables = cables | {(p + n, q + n) for p, q in more} | {(a, n + b)}
+            cables = cables + [(p + n, q + n) for p, q in more] + times * [(a, n + b)]
             n += k
         else:
             for _ in range(rng.choice([1, 2])):
-                cables = cables | {(a, n)}
+                cables = cables + times * [(a, n)]
                 a = n
                 n += 1
         if max(degrees(n, cables)) <= 4:
@@ -418,8 +485,8 @@ def might_pass(words):
     rows = [(w >> 12 & 0xfff, w & 0xfff) for w in words[1:]]
     if not 3 <= n <= 256 or any(a >= n or b >= n or a == b for a, b in rows):
         return False
-    cables = [pair(a, b) for a, b in rows[1:]]
-    if len(set(cables)) != len(cables) or max(degrees(n, cables)) > 4:
+    cables = rows[1:]
+    if max(degrees(n, cables)) > 4:
         return False
     for gone in range(-1, n):
         group = list(range(n))
@@ -455,8 +522,10 @@ def noise(rng):
     """Small lists of chance: any outcome, faults in any mixture."""
     n = rng.choice([2, 3, 4, 5, 6])
     m = rng.randint(0, 2 * n)
-    words = build(n, rng.randrange(n), rng.randrange(n),
-                  [(rng.randrange(n), rng.randrange(n)) for _ in range(m)])
+    rows = [(rng.randrange(n), rng.randrange(n)) for _ in range(m + 1)]
+    if rng.random() < 0.5:
+        rows = [(a, b if a != b else (a + 1) % n) for a, b in rows]
+    words = build(n, *rows[0], rows[1:])
     if rng.random() < 0.2:
         words[rng.randrange(len(words))] ^= 1 << rng.randrange(32)
     return words
@@ -571,14 +640,15 @@ def boundaries():
     no(6, 3, 'two cables join a part to itself',
        triangle[:3] + [cable(2, 2), cable(1, 1)])
 
-    # 7
+    # 7 is the number of no check: a cable that joins two parts again is one as any other.
+    no(9, 2, "check 7's example in document 01", build(3, 0, 2, [(0, 1), (1, 0)]))
     for i in range(3):
         for w, how in ((triangle[2 + i], 'again'), (turned(triangle[2 + i]), 'turned round')):
-            no(7, 5, 'cable %d %s' % (i, how), grown(triangle, [w]))
-    no(7, 3, 'two adjacent', build(3, 0, 2, [(0, 1), (1, 0), (1, 2), (0, 2)]))
-    no(7, 4, 'later words cross over',
-       build(3, 0, 2, [(0, 1), (1, 2), (2, 1), (1, 0), (0, 2)]))
-    no(7, 3, 'three times', build(3, 0, 2, [(0, 1), (0, 1), (1, 0)]))
+            put('sheet', 'cable %d %s' % (i, how), grown(triangle, [w]))
+    put('sheet', 'two adjacent', build(3, 0, 2, [(0, 1), (1, 0), (1, 2), (0, 2)]))
+    put('sheet', 'later words cross over',
+        build(3, 0, 2, [(0, 1), (1, 2), (2, 1), (1, 0), (0, 2)]))
+    no(9, 2, 'three times', build(3, 0, 2, [(0, 1), (0, 1), (1, 0)]))
 
     # 8
     five = sorted(complete(5)[1])
@@ -594,6 +664,21 @@ def boundaries():
                        (2, 0), (2, 1), (2, 3), (2, 4), (2, 5)]))
     put('sheet', 'four cables at the last part',
         build(5, 0, 4, [(0, 1), (1, 2), (2, 3), (3, 0), (4, 0), (4, 1), (4, 2), (4, 3)]))
+    # Repeated cables are counted as others. Four between two parts leave no path to a third.
+    for k in (5, 6, 7):
+        no(8, 0, '%d cables between 0 and 1' % k, build(3, 0, 2, k * [(0, 1)]))
+    no(8, 1, 'five cables between 1 and 2', build(3, 0, 2, 5 * [(1, 2)]))
+    no(8, 1, 'five cables between 1 and 2, some turned round', build(3, 0, 2, [(1, 2), (2, 1), (2, 1), (1, 2), (2, 1)]))
+    no(9, 2, 'four cables between 0 and 1', build(3, 0, 2, 4 * [(0, 1)]))
+    no(9, 1, 'four cables between 1 and 2', build(3, 0, 2, [(1, 2), (2, 1), (1, 2), (2, 1)]))
+    no(9, 2, 'four cables between 0 and 1, four between 2 and 3', build(4, 0, 3, 4 * [(0, 1), (2, 3)]))
+    no(8, 0, 'four cables between 0 and 1, and one to 2', build(3, 0, 2, 4 * [(0, 1)] + [(0, 2)]))
+    no(8, 1, 'four cables between 0 and 1, and one from 1 to 2', build(3, 0, 2, 4 * [(0, 1)] + [(1, 2)]))
+    no(8, 2, 'three cables and a pair at 2', build(3, 0, 1, 3 * [(0, 2)] + 2 * [(2, 1)]))
+    no(8, 1, 'seven cables among three parts', build(3, 0, 2, 2 * [(0, 1)] + 3 * [(1, 2)] + 2 * [(0, 2)]))
+    # More than a byte counts, among many parts and among few.
+    no(8, 254, '256 cables between 254 and 255', build(256, 0, 255, 256 * [(254, 255)]))
+    no(8, 1, '256 cables between 1 and 2', build(3, 0, 2, 256 * [(1, 2)]))
 
     # 9
     three = [(0, 1), (1, 2), (0, 2)]
@@ -602,6 +687,7 @@ def boundaries():
     no(9, 3, 'two triangles', build(6, 0, 5, three + [(3, 4), (4, 5), (3, 5)]))
     no(9, 1, 'two triangles in turn',
        build(6, 0, 5, [(0, 2), (2, 4), (4, 0), (1, 3), (3, 5), (5, 1)]))
+    no(9, 3, 'two triangles of pairs', build(6, 0, 5, 2 * (three + [(3, 4), (4, 5), (3, 5)])))
     no(9, 255, 'part 255 of 256 alone', build(256, 0, 1, sorted(ring(255)[1])))
     no(9, 1, '256 parts, no cable', build(256, 0, 1, []))
 
@@ -614,6 +700,14 @@ def boundaries():
            build(5, s, t, [(0, 1), (1, 2), (0, 2), (2, 3), (3, 4), (2, 4)]))
     no(10, 2, 'two triangles with a cable between',
        build(6, 0, 5, three + [(3, 4), (4, 5), (3, 5), (2, 3)]))
+    no(10, 1, 'path of pairs', build(3, 0, 2, [(0, 1), (0, 1), (1, 2), (1, 2)]))
+    no(10, 0, 'path of pairs with part 0 within', build(3, 1, 2, [(0, 1), (2, 0), (0, 2), (1, 0)]))
+    no(10, 1, 'path of three cables and one', build(3, 0, 2, [(0, 1), (0, 1), (0, 1), (1, 2)]))
+    no(10, 1, 's has two cables, both to part 1', build(4, 0, 3, [(0, 1), (1, 0), (1, 2), (1, 3), (2, 3)]))
+    no(10, 2, 't has two cables, both from part 2', build(4, 0, 3, [(0, 1), (0, 2), (1, 2), (2, 3), (3, 2)]))
+    no(10, 2, 'two triangles with a pair between',
+       build(6, 0, 5, three + [(3, 4), (4, 5), (3, 5), (2, 3), (3, 2)]))
+    no(10, 1, 'path of 40 pairs', build(41, 0, 40, 2 * [(p, p + 1) for p in range(40)]))
     no(10, 1, 'path of 256', build(256, 0, 255, [(p, p + 1) for p in range(255)]))
     no(10, 254, 'part 255 of 256 on one cable',
        build(256, 0, 255, sorted(ring(255)[1]) + [(254, 255)]))
@@ -623,15 +717,17 @@ def boundaries():
                                | {(p, p + 2) for p in range(252)})))
 
     # Several faults: the lower number goes first wherever its word stands.
-    no(2, 4, '2 before 3 to 7', [head(2, 9), ends(9, 9), cable(1, 1), cable(1, 1), 0x40000000])
-    no(3, 11, '3 before 4 to 7', [head(2, 9), ends(9, 9), cable(1, 1), cable(1, 1)])
-    no(4, 2, '4 before 5 to 7', [head(2, 2), ends(9, 9), cable(1, 1), cable(1, 1)])
+    no(2, 4, '2 before 3 to 6', [head(2, 9), ends(9, 9), cable(1, 1), cable(1, 1), 0x40000000])
+    no(3, 11, '3 before 4 to 6', [head(2, 9), ends(9, 9), cable(1, 1), cable(1, 1)])
+    no(4, 2, '4 before 5 and 6', [head(2, 2), ends(9, 9), cable(1, 1), cable(1, 1)])
     no(5, 4, '5 before 6', build(3, 1, 1, [(0, 0), (1, 2), (0, 3)]))
-    no(6, 4, '6 before 7', build(3, 0, 2, [(0, 1), (1, 0), (2, 2)]))
+    no(6, 4, '6 behind a repeated cable', build(3, 0, 2, [(0, 1), (1, 0), (2, 2)]))
+    no(6, 7, '6 before 8', build(3, 0, 2, 5 * [(0, 1)] + [(2, 2)]))
     no(6, 2, 'a cable from a part to itself twice', build(3, 0, 2, [(1, 1), (1, 1)]))
-    no(7, 7, '7 before 8',
+    no(8, 0, 'six cables at 0, one of them again',
        build(6, 0, 5, [(0, 1), (0, 2), (0, 3), (0, 4), (0, 5), (5, 0)]))
     no(8, 1, '8 before 9', build(7, 0, 6, [(1, 2), (1, 3), (1, 4), (1, 5), (1, 6)]))
+    no(8, 0, '8 before 9 and 10, by repeated cables', build(4, 0, 3, 5 * [(0, 1)] + [(1, 2)]))
     no(9, 3, '9 before 10', build(4, 0, 3, [(0, 1), (1, 2)]))
 
     # Bottom and top connections, alone and together, at s and t joined or not.
@@ -649,7 +745,8 @@ def boundaries():
                 listed(rng, n, cables, s, t))
 
     # Four cables at s or t. Without repeated cables this takes five parts, and the
-    # fourth column six. s is part 0 and t the last, and ranks are as the numbers.
+    # fourth column six; with them, in JOINED, three. s is part 0 and t the last, and
+    # ranks are as the numbers.
     for at_s, at_t, which, n, cables in FOUR:
         put('sheet', '%d parts: %d cables at s; %s' % (
             n, at_s, 'the %s of four columns climbs over t' % which if which else '%d at t' % at_t),
@@ -675,10 +772,116 @@ def boundaries():
         put('sheet', '256 parts: %s shuffled' % what,
             listed(rng, n, cables, *rng.sample(range(n), 2)))
 
-    # The longest cable that is known for so many parts.
+    # The longest cable that is known for so many parts, without repeated ones.
     for n in (9, 256):
         put('sheet', '%d parts: a cable of %d steps' % (n, 3 * n - 5),
             build(n, 0, n - 1, sorted(long_cable(n)[1])))
+    return out + repeats()
+
+
+# Stations with repeated cables: cables at s, at t; how often the two lowest ranks are joined, the two highest, s
+# and t; parts; cables. s is part 0 and t the last, and ranks are as the numbers. A pair at s or t takes a third
+# cable there, or its far end would be a cut part.
+JOINED = [(a + c, b + c, a, b, c, 3, a * [(0, 1)] + b * [(1, 2)] + c * [(0, 2)])
+          for a in (1, 2, 3) for b in (1, 2, 3) for c in (1, 2, 3)
+          if max(a + b, b + c, a + c) <= 4 and a + b + c > 3] + [
+    (2, 2, 1, 1, 1, 4, [(0, 1), (1, 2), (1, 2), (2, 3), (0, 3)]),
+    (2, 2, 1, 1, 1, 4, [(0, 1), (1, 2), (1, 2), (1, 2), (2, 3), (0, 3)]),
+    (3, 3, 2, 2, 0, 4, [(0, 1), (0, 1), (0, 2), (1, 3), (2, 3), (2, 3)]),
+    (3, 3, 1, 1, 2, 4, [(0, 1), (0, 3), (1, 2), (0, 3), (2, 3)]),
+    (3, 4, 2, 2, 1, 4, [(0, 1), (0, 1), (0, 3), (1, 2), (1, 3), (2, 3), (2, 3)]),
+    (3, 4, 1, 1, 1, 4, [(0, 1), (0, 2), (0, 3), (1, 3), (1, 3), (2, 3)]),
+    (4, 3, 2, 2, 1, 4, [(0, 1), (0, 1), (0, 2), (0, 3), (1, 2), (2, 3), (2, 3)]),
+    (4, 3, 1, 1, 1, 4, [(0, 1), (0, 2), (0, 2), (0, 3), (1, 3), (2, 3)]),
+    (4, 2, 2, 1, 0, 4, [(0, 1), (0, 1), (0, 2), (0, 2), (1, 3), (2, 3)]),
+    (4, 2, 3, 1, 0, 4, [(0, 1), (0, 1), (0, 1), (0, 2), (1, 3), (2, 3)]),
+    (2, 4, 1, 2, 0, 4, [(0, 1), (0, 2), (1, 3), (1, 3), (2, 3), (2, 3)]),
+    (2, 4, 1, 3, 0, 4, [(0, 1), (0, 2), (1, 3), (2, 3), (2, 3), (2, 3)]),
+    (4, 4, 1, 1, 2, 4, [(0, 1), (0, 2), (0, 3), (0, 3), (1, 3), (2, 3)]),
+    (4, 4, 2, 2, 2, 4, 2 * [(0, 1), (1, 2), (2, 3), (0, 3)]),
+    (4, 4, 3, 3, 1, 4, [(0, 1), (0, 1), (0, 1), (1, 2), (0, 3), (2, 3), (2, 3), (2, 3)]),
+    (4, 4, 1, 1, 0, 6, [(0, 1), (0, 2), (0, 3), (0, 4), (2, 3), (3, 2), (1, 5), (2, 5), (3, 5), (4, 5)]),
+]
+
+# A part, the far ends of its outgoing cables by line, the other cables of the station, parts: with equal far ends at
+# s with three and with four cables, and at a part where one comes in and where two do. As above s is part 0.
+EQUAL_FAR = [(0, far, [(1, 2)], 3) for far in (
+    '112', '121', '211', '122', '212', '221', '1222', '2122', '2212', '2221')] + [
+    (1, '22', [(0, 1), (0, 2)], 3), (1, '222', [(0, 1), (0, 2)], 3), (1, '33', [(0, 1), (0, 2), (2, 3)], 4)] + [
+    (1, far, [(0, 1), (0, 3), (2, 3)], 4) for far in ('223', '232', '322', '233', '323', '332')] + [
+    (1, '22', [(0, 1), (0, 1), (0, 2)], 3), (2, '33', [(0, 1), (0, 2), (1, 2), (0, 3)], 4)]
+
+# The far ends of s's four cables, or of t's, by line: 1 is the second-ranked or the last-ranked but one.
+FOUR_LINES = ('1122', '1212', '1221', '2112', '2121', '2211', '1112', '1121', '1211', '2111')
+
+
+def left_to_right(part, cables):
+    """The lines that go up from a part, where ranks are as the numbers: by rising far end, and
+    among equal ones by line. Of four at s the lowest line to part 1 takes the last column."""
+    lines = [line for _, line in sorted((max(c), line) for line, c in enumerate(cables) if min(c) == part)]
+    return lines[1:] + lines[:1] if part == 0 and len(lines) == 4 else lines
+
+
+def repeats():
+    """The boundaries of stations with repeated cables."""
+    out = []
+
+    def put(what, words):
+        out.append(('sheet, ' + what, words))
+
+    def some_turned(cables):
+        return [c[::-1] if k % 2 else c for k, c in enumerate(cables)]
+
+    for at_s, at_t, low, high, through, n, cables in JOINED:
+        what = ('%d parts, %d cables: %d cables at s; %d at t; '
+                'the two lowest ranks joined %d times, the two highest %d, s and t %d')
+        what %= n, len(cables), at_s, at_t, low, high, through
+        put(what, build(n, 0, n - 1, cables))
+        put(what + '; lines reversed, some turned round', build(n, 0, n - 1, some_turned(cables[::-1])))
+
+    for part, far, others, n in EQUAL_FAR:
+        own = [(part, int(q)) for q in far]
+        for how, cables in (('', own + others), (', behind others, some turned round', others + some_turned(own))):
+            put('far ends %s%s; %d in; part %d: lines %s from left to right' % (
+                ' '.join(far), how, sum(max(c) == part for c in others), part,
+                ' '.join(map(str, left_to_right(part, cables)))), build(n, 0, n - 1, cables))
+
+    # Of two or three that could leave s downward, or climb over t, the lowest line does.
+    for far in FOUR_LINES:
+        lines = [k for k, q in enumerate(far) if q == '1']
+        for how, which in (('', []), (', turned round', lines[:1]), (', the others turned round', lines[1:])):
+            at_s = [(int(q), 0) if k in which else (0, int(q)) for k, q in enumerate(far)]
+            at_t = [(2, q % 2) if k in which else (q % 2, 2) for k, q in enumerate(map(int, far))]
+            put('far ends %s: line %d leaves s downward%s; part 0: lines %s from left to right' % (
+                ' '.join(far), lines[0], how, ' '.join(map(str, left_to_right(0, at_s)))),
+                build(3, 0, 2, at_s + [(1, 2)]))
+            put('far ends %s behind a line: line %d climbs over t%s' % (
+                ' '.join(far).replace('2', '0'), 1 + lines[0], how), build(3, 0, 2, [(0, 1)] + at_t))
+
+    # s is 6 and t is 4, and the order is 6, 5, 2, 3, 1, 0, 4: the second-ranked part has the highest number beside s
+    # and the last-ranked but one the lowest beside t.
+    turned_ranks = [(0, 1), (0, 4), (0, 4), (1, 3), (1, 4), (2, 3), (2, 5), (2, 6), (4, 6), (5, 6), (5, 6)]
+    put('7 parts: 4 cables at s; 4 at t; ranks against the numbers: line 9 leaves s downward; line 1 climbs over t',
+        build(7, 6, 4, turned_ranks))
+    put('7 parts: 4 cables at s; 4 at t; ranks against the numbers: line 0 leaves s downward; line 8 climbs over t',
+        build(7, 6, 4, turned_ranks[::-1]))
+
+    for n in (3, 4, 5, 8):
+        cables = sorted(ring(n)[1])
+        for t in sorted({1, n // 2, n - 1}):
+            put('ring of %d pairs: 4 cables at s; t is %d' % (n, t), build(n, 0, t, 2 * cables))
+        put('ring of %d pairs, each side by side' % n, build(n, 0, n - 1, doubled(n, cables)[1]))
+    for what, (n, cables) in (('ring with every other cable three times', triple_ring(6)),
+                              ('chain of pairs', pair_chain(6)), ('ladder with pairs for rungs', pair_ladder(4))):
+        put('%d parts: %s' % (n, what), build(n, 0, n - 1, cables))
+        put('%d parts: %s; s is 2, t is 1' % (n, what), build(n, 2, 1, cables))
+
+    rng = random.Random(512)
+    for what, (n, cables) in (('doubled ring', doubled(*ring(256))), ('triple ring', triple_ring(256)),
+                              ('chain of pairs', pair_chain(256)), ('pair ladder', pair_ladder(128)),
+                              ('random, with repeated cables', repeated(rng, *ears(rng, 256)))):
+        put('256 parts: ' + what, build(n, 0, n - 1, cables))
+        put('256 parts: %s shuffled' % what, listed(rng, n, cables, *rng.sample(range(n), 2)))
     return out
 
 
@@ -969,7 +1172,7 @@ def edits():
     put('a spare bit, and the last word missing', [head(3, 3), ends(0, 2), 0x31000001, cable(1, 2)], unread(2, 2, 3))
     put('no ends, and the last words missing', [head(3, 3), 0x30000002, cable(0, 1)], unread(2, 1, 3))
     put('no head, and the last words missing', [0x20030003, ends(0, 2), cable(0, 1)], unread(2, 0, 3))
-    put('3 before 4 to 7', [head(2, 4), ends(9, 9), cable(1, 1), cable(1, 1), cable(0, 9)], unread(3, 6, 4))
+    put('3 before 4 to 6', [head(2, 4), ends(9, 9), cable(1, 1), cable(1, 1), cable(0, 9)], unread(3, 6, 4))
 
     # Lists that checks 2 to 8 refuse, in a row of their own length and in a longer one.
     seen = set()
@@ -985,13 +1188,15 @@ def edits():
                 seen.add((check, spare))
 
     # What lies behind a list is no part of it.
-    put('a cable behind the triangle', triangle + [cable(0, 1)], away(7, 5, 3, (0, 1)), away(6, 5, 3, (1, 1)), away(5, 5, 3, (3, 1)))
-    put('m is 0 in front of cables', [head(3, 0)] + triangle[1:], fresh(0, 1, 0), away(7, 3, 1, (1, 0)), fresh(0, 2, 1))
-    put('m is 2 in front of three cables', [head(3, 2)] + triangle[1:], fresh(2, 0, 2), away(7, 5, 3, (0, 2)))
+    put('a cable behind the triangle', triangle + [cable(0, 1)],
+        away(6, 5, 3, (1, 1)), away(5, 5, 3, (3, 1)), fresh(0, 1, 3), away(16, 6, 4, (0, 1), (2, 1)))
+    put('m is 0 in front of cables', [head(3, 0)] + triangle[1:],
+        fresh(0, 1, 0), fresh(1, 0, 1), fresh(0, 2, 2), away(16, 5, 3, (0, 1)))
+    put('m is 2 in front of three cables', [head(3, 2)] + triangle[1:], fresh(2, 0, 2), away(16, 5, 3, (0, 2)))
     put('a list behind the list', two + two, fresh(1, 0, 0), fresh(2, 1, 1), away(16, 4, 2, (0, 2)))
     put('all ones behind the list', two + 3 * [LAST], fresh(1, 2, 0), fresh(0, 1, 1))
     put('the new cable behind the list', two + 3 * [cable(0, 1)],
-        fresh(1, 0, 0), away(7, 3, 1, (0, 1)), fresh(1, 2, 1), fresh(0, 2, 2), away(7, 5, 3, (0, 1)))
+        fresh(1, 0, 0), fresh(0, 1, 1), fresh(1, 2, 2), away(16, 5, 3, (0, 1), (1, 2)))
     put('five cables of a part behind the list', [head(7, 0), ends(0, 1)] + [cable(0, q) for q in range(1, 6)],
         fresh(0, 6, 0), fresh(0, 5, 1), fresh(0, 4, 2), fresh(0, 3, 3), away(8, 0, 4, (0, 2), (1, 0)), fresh(1, 2, 4))
 
@@ -999,10 +1204,10 @@ def edits():
     put('no cable and no room', two, away(16, 2, 0, (0, 1), (2, 0)), away(6, 2, 0, (1, 1)), away(5, 2, 0, (0, 3), (4096, 4096)),
         stale(0, (0, 1, 1), (0, 0, 65536), (LAST, 0, LAST)))
     put('no cable and room for one', slots(two, 1), stale(0, (0, 2, 1), (0, 2, 65536)), fresh(0, 2, 0),
-        away(16, 3, 1, (0, 1)), away(7, 3, 1, (2, 0)), stale(1, (0, 1, 0)))
+        away(16, 3, 1, (0, 1), (2, 0)), stale(1, (0, 1, 0), (0, 2, 0)))
 
-    # 5: the largest part, and numbers that are none. It comes before 6, and before 7 of
-    # what the low bits would be.
+    # 5: the largest part, and numbers that are none. It comes before 6, and the low bits do
+    # not count.
     for n, numbers in ((3, [3, 4, 255, 256, 4095, *TOO_WIDE]), (4, [4, 5, 256, 257, 4094, 4095, *TOO_WIDE]),
                        (256, [256, 257, 511, 512, 4095, 4096 + 255, 65536 + 255, (1 << 24) + 255, LAST - 4095 + 255, LAST])):
         cables = [c for p in numbers for c in ((p, 0), (n - 1, p))] + [(p, p) for p in numbers[::4]]
@@ -1010,18 +1215,37 @@ def edits():
         put('part numbers among %d' % n, slots(build(n, 0, n - 1, [(1, 2)]), 2),
             away(5, 3, 1, *cables), fresh(n - 1, 0, 1), away(5, 4, 2, (n, 1)), fresh(0, 1, 2), away(5, 5, 3, (1, n)))
 
-    # 5 to 8, either way round, with room and without: 16 comes last. 15 comes before all.
-    joined = [c for a, b in ((1, 4), (0, 1), (2, 1), (3, 1), (2, 6), (3, 6), (4, 6), (5, 6)) for c in ((a, b), (b, a))]
+    # 5, 6 and 8, either way round, with room and without: 16 comes last. 15 comes before all. A cable that joins
+    # two parts again is refused as any other: all of CROWDED are at 1 or at 6.
+    at_1, at_6 = ([c for q in far for c in ((p, q), (q, p))] for p, far in ((1, (4, 0, 2, 3)), (6, (2, 3, 4, 5))))
     all_refused = (
         away(5, 10, 8, (8, 1), (1, 8), (8, 8), (4097, 5), (6, 4096)) + away(6, 10, 8, (0, 0), (1, 1), (6, 6), (7, 7))
-        + away(7, 10, 8, *joined) + away(8, 1, 8, (1, 5), (5, 1), (1, 7), (7, 1), (1, 6), (6, 1)) + away(8, 6, 8, (0, 6), (6, 0), (6, 7), (7, 6))
+        + away(8, 1, 8, *at_1) + away(8, 6, 8, *at_6)
+        + away(8, 1, 8, (1, 5), (5, 1), (1, 7), (7, 1), (1, 6), (6, 1)) + away(8, 6, 8, (0, 6), (6, 0), (6, 7), (7, 6))
         + stale(8, *[(*c, v) for c in ((0, 8), (LAST, 1), (7, 7), (1, 1), (4, 1), (1, 4), (1, 5), (6, 0), (0, 7)) for v in (7, 9)])
         + stale(8, *[(7, 0, v) for v in (0, 1, 10, 256 + 8, 4096 + 8, 65536 + 8, (8 << 16) + 8, (1 << 24) + 8, (1 << 31) + 8,
                                          CROWDED[0], LAST - 65535 + 8, LAST)]))
     put('eight parts, no room', CROWDED, all_refused, away(16, 10, 8, (0, 7), (5, 2)))
-    put('eight parts, room for two', slots(CROWDED, 2), all_refused,
-        fresh(7, 0, 8), stale(9, (7, 0, 8)), away(7, 11, 9, (0, 7)), away(8, 6, 9, (6, 0)),
-        fresh(5, 7, 9), away(16, 12, 10, (0, 5)), stale(10, (0, 5, 9)), away(7, 12, 10, (7, 5)), away(8, 1, 10, (7, 1)))
+    put('eight parts, room for three', slots(CROWDED, 3), all_refused,
+        fresh(7, 0, 8), stale(9, (7, 0, 8)), away(8, 6, 9, (6, 0)), fresh(0, 7, 9), stale(10, (0, 7, 9), (7, 0, 8)),
+        fresh(5, 7, 10), away(16, 13, 11, (0, 5), (7, 5), (7, 0)), stale(11, (0, 5, 10)), away(8, 1, 11, (7, 1)))
+
+    # Two parts joined as often as check 8 lets them be, and once more.
+    put('one cable again and again', slots(build(4, 0, 3, []), 7),
+        fresh(0, 1, 0), fresh(0, 1, 1), fresh(1, 0, 2), fresh(0, 1, 3), away(8, 0, 4, (0, 1), (1, 0), (0, 2)),
+        away(8, 1, 4, (1, 2), (3, 1)), away(6, 6, 4, (1, 1)), away(5, 6, 4, (0, 4)), fresh(3, 2, 4), fresh(2, 3, 5),
+        fresh(3, 2, 6), away(16, 9, 7, (2, 3)), away(8, 0, 7, (1, 0)), stale(7, (2, 3, 6)))
+    put('a repeated cable and no room', build(3, 0, 2, [(0, 1)]),
+        away(16, 3, 1, (0, 1), (1, 0), (0, 2)), stale(1, (0, 1, 0)))
+    put('the higher part has four', slots(build(6, 0, 5, [(0, 5), (5, 0), (5, 1), (1, 5)]), 2),
+        away(8, 5, 4, (0, 5), (5, 0), (1, 5), (5, 2)), fresh(1, 0, 4), fresh(2, 0, 5),
+        away(8, 0, 6, (0, 1), (2, 0)), away(16, 8, 6, (2, 1)))
+    put('both parts have four', slots(build(4, 1, 2, 3 * [(1, 3)] + [(2, 1), (3, 2)]), 2),
+        away(8, 1, 5, (1, 3), (3, 1), (1, 2)), away(8, 3, 5, (2, 3), (3, 0)),
+        fresh(2, 0, 5), fresh(0, 2, 6), away(8, 2, 7, (2, 0)))
+    put('pairs between three parts', slots(build(3, 0, 2, []), 7),
+        *[fresh(*c, k) for k, c in enumerate([(0, 1), (1, 2), (2, 0), (0, 2), (2, 1), (1, 0)])],
+        away(8, 0, 6, (0, 1), (2, 0)), away(8, 1, 6, (1, 2), (2, 1)))
 
     # The fourth cable of a part passes and the fifth does not, whichever field names it.
     for what, part, cables, fourth, fifth, other in (
@@ -1032,32 +1256,39 @@ def edits():
         put('the fourth and the fifth at %s' % what, slots(build(6, 0, 5, cables), 2),
             fresh(*fourth, 3), away(8, part, 4, fifth, fifth[::-1]), fresh(*other, 4))
     put('a fourth at both ends', slots(build(7, 0, 6, [(0, 1), (0, 2), (0, 3), (6, 3), (6, 4), (6, 5)]), 2),
-        fresh(6, 0, 6), away(8, 0, 7, (0, 5)), away(8, 6, 7, (6, 1)), away(7, 9, 7, (0, 6)))
+        fresh(6, 0, 6), away(8, 0, 7, (0, 5), (0, 6), (6, 0)), away(8, 6, 7, (6, 1)))
 
     # Of slips with one version one is laid. A slip with a later one waits.
     put('two slips with one version', slots(two, 3),
-        fresh(0, 1, 0)[:1], fresh(1, 2, 0), stale(1, (0, 1, 0), (1, 2, 0)), fresh(0, 1, 1), away(7, 4, 2, (1, 2)))
+        fresh(0, 1, 0)[:1], fresh(1, 2, 0), stale(1, (0, 1, 0), (1, 2, 0)), fresh(0, 1, 1), fresh(1, 2, 2),
+        stale(3, (1, 2, 2)))
     put('a slip ahead of its version', slots(two, 3),
         stale(0, (0, 2, 2)), fresh(0, 1, 0), stale(1, (0, 2, 2)), fresh(1, 2, 1), fresh(0, 2, 2))
     ten = sorted(complete(5)[1])
     put('all ten cables among five', slots(build(5, 0, 4, []), 12), *[fresh(*c[::1 - k % 2 * 2], k) for k, c in enumerate(ten)],
-        away(7, 12, 10, *ten[::2], *[c[::-1] for c in ten[1::2]]))
+        *[away(8, min(c), 10, c[::1 - k % 2 * 2]) for k, c in enumerate(ten)])
 
     # 256 parts. With 512 cables every part has four, so that 16 never comes.
     full, wide, around = full_list(256), wide_list(256), ring_list(256)
     for spare in (0, 1, 6):
         put('512 cables; %d words behind' % spare, slots(full, spare),
-            away(8, 0, 512, (0, 100)), away(8, 128, 512, (255, 128)), away(8, 252, 512, (252, 255)), away(7, 514, 512, (0, 255), (1, 0)),
+            away(8, 0, 512, (0, 100), (0, 255), (1, 0)), away(8, 128, 512, (255, 128)), away(8, 252, 512, (252, 255)),
             away(6, 514, 512, (255, 255)), away(5, 514, 512, (256, 0), (100, 4096)),
             stale(512, (0, 100, 511), (0, 100, 0), (0, 100, 65536 + 512), (0, 256, 513)))
     put('511 cables, no room', wide, away(16, 513, 511, (255, 0)), away(8, 2, 511, (2, 255)), away(8, 100, 511, (0, 100)),
-        away(7, 513, 511, (254, 255)), stale(511, (0, 255, 255)))
+        away(8, 254, 511, (254, 255)), stale(511, (0, 255, 255)))
     put('511 cables, room for one', slots(wide, 1), stale(511, (0, 255, 510)), fresh(255, 0, 511),
-        away(7, 514, 512, (0, 255)), away(8, 0, 512, (0, 128)), stale(512, (0, 128, 511)))
-    put('256 cables', slots(around, 3), stale(256, *[(128, 3, v) for v in (0, 255, 257, 512)]), fresh(128, 3, 256), fresh(254, 127, 257),
-        away(7, 260, 258, (3, 128)), away(5, 260, 258, (3, 256)), fresh(255, 1, 258), away(16, 261, 259, (0, 2)))
+        away(8, 0, 512, (0, 255), (0, 128)), stale(512, (0, 128, 511)))
+    put('256 cables', slots(around, 4), stale(256, *[(128, 3, v) for v in (0, 255, 257, 512)]),
+        fresh(128, 3, 256), fresh(254, 127, 257), away(5, 260, 258, (3, 256)), fresh(3, 128, 258),
+        away(8, 3, 259, (3, 128)), fresh(255, 0, 259), away(16, 262, 260, (0, 2), (0, 255)))
     put('255 cables', slots(build(256, 0, 255, [(p, p + 1) for p in range(255)]), 1),
-        fresh(255, 0, 255), away(16, 258, 256, (0, 2)), away(7, 258, 256, (0, 255)))
+        fresh(255, 0, 255), away(16, 258, 256, (0, 2), (0, 255)))
+    put('512 cables, each twice', slots(build(256, 0, 255, doubled(*ring(256))[1]), 1),
+        away(8, 0, 512, (0, 1), (255, 0), (100, 0)), away(8, 254, 512, (255, 254)), stale(512, (0, 1, 511)))
+    put('510 cables, each twice', slots(build(256, 0, 255, 2 * [(p, p + 1) for p in range(255)]), 2),
+        away(8, 1, 510, (0, 1)), away(8, 254, 510, (255, 254)), fresh(255, 0, 510), fresh(0, 255, 511),
+        away(8, 0, 512, (0, 255)))
     return out
 
 
@@ -1067,22 +1298,24 @@ def long_edits():
     right = [head(256, most), ends(0, 1)] + [cable(0, 1), cable(1, 2)] * (most // 2) + [cable(0, 1)]
     for name, row, check, place in (
             ('a word less than the greatest m', right[:-1], 3, 65537),
-            ('the greatest m', right, 7, 4),
-            ('a word behind the greatest m', right + [LAST], 7, 4),
-            ('the greatest m in a million words', right + 934463 * [cable(0, 1)], 7, 4),
+            ('the greatest m', right, 8, 0),
+            ('a word behind the greatest m', right + [LAST], 8, 0),
+            ('the greatest m in a million words', right + 934463 * [cable(0, 1)], 8, 0),
+            ('the greatest m between the last two parts', right[:2] + most * [cable(255, 254)], 8, 254),
             ('kind 4 in the last word', right[:-1] + [0x40000000], 2, 65536),
             ('257 parts', [head(257, most)] + right[1:], 4, 257),
             ('256 in the last word', right[:-1] + [cable(0, 256)], 5, 65536),
             ('the last word joins a part to itself', right[:-1] + [cable(9, 9)], 6, 65536)):
         yield name, row, unread(check, place, most)
     yield ('a million words behind the list', slots(build(3, 0, 2, [(0, 1)]), 1000000),
-           stale(1, (2, 1, 0)) + fresh(2, 1, 1) + away(7, 4, 2, (1, 2)) + fresh(0, 2, 2)
-           + away(7, 5, 3, (2, 0)) + away(6, 5, 3, (2, 2)) + away(5, 5, 3, (4096, 1)))
+           stale(1, (2, 1, 0)) + fresh(2, 1, 1) + fresh(1, 2, 2) + fresh(0, 2, 3) + fresh(2, 0, 4)
+           + away(8, 2, 5, (2, 0), (1, 2)) + away(6, 7, 5, (2, 2)) + away(5, 7, 5, (4096, 1)))
 
 
 def loose(rng, n, m):
-    """A list that passes checks 1 to 8, with m cables if so many are found."""
-    pairs = sorted((four_regular(rng, n) if n > 12 else complete(n))[1])
+    """A list that passes checks 1 to 8, with m cables if so many are found; often with
+    repeated ones."""
+    pairs = rng.choice([1, 1, 2, 4]) * sorted((four_regular(rng, n) if n > 12 else complete(n))[1])
     rng.shuffle(pairs)
     cables, count = [], [0] * n
     for a, b in pairs:
@@ -1109,8 +1342,8 @@ def start(rng, large=False):
 
 
 def some_cable(rng, n, cables):
-    """Two numbers, chosen so that each of 5 to 8 and no refusal come often."""
-    joined = {pair(a, b) for a, b in cables}
+    """Two numbers, chosen so that each of 5, 6 and 8, a repeated cable and no refusal come
+    often."""
     count = [0] * n
     for p in (p for c in cables for p in c if p < n):
         count[p] += 1
@@ -1119,7 +1352,7 @@ def some_cable(rng, n, cables):
         return tuple(rng.sample(range(n), 2))
 
     def first(test, pairs):
-        return next((c if rng.random() < 0.5 else c[::-1] for c in pairs if pair(*c) not in joined and test(c)), any_two())
+        return next((c if rng.random() < 0.5 else c[::-1] for c in pairs if test(c)), any_two())
 
     pairs = [any_two() for _ in range(60)] if n > 12 else rng.sample(sorted(complete(n)[1]), n * (n - 1) // 2)
     way = rng.randrange(16)
@@ -1190,7 +1423,7 @@ def files():
     assert len(full) == 65536
     out += [('65532 bytes', full[:-4], 'refused 3 16384'),
             ('65535 bytes', full[:-1], 'broken file'),
-            ('65536 bytes', full, 'refused 7 4'),
+            ('65536 bytes', full, 'refused 8 0'),
             ('65537 bytes', full + b'0', 'file too large'),
             ('65540 bytes', full + full[:4], 'file too large'),
             ('a million bytes', bytes(1000000), 'file too large')]

@@ -16,8 +16,9 @@ import reference
 HERE = os.path.dirname(os.path.abspath(__file__))
 CRATE = os.path.join(os.path.dirname(HERE), 'crates', 'cases')
 
-# of the largest stations three are kept: a ladder, one with 512 cables and one with a long cable
-LARGE = ('sheet, 256 parts: ladder shuffled', 'sheet, 256 parts: 512 cables shuffled', 'sheet, 256 parts: a cable of 763 steps')
+# of the largest stations four are kept: a ladder, one with 512 cables, one with a long cable, and one with pairs alone
+LARGE = ('sheet, 256 parts: ladder shuffled', 'sheet, 256 parts: 512 cables shuffled',
+         'sheet, 256 parts: a cable of 763 steps', 'sheet, 256 parts: doubled ring shuffled')
 
 WORKED = (
     '10030003 20000002 30000001 30001002 30000002',
@@ -34,7 +35,7 @@ EDGES = {'ring of 256': ((1, 15, 135), (1, 16, 7), (1, 16, 8), (64, 64, 255)), '
          '256 parts, 511 cables': ((15, 16, 7), (16, 16, 0)), '256 parts, 512 cables': ((15, 15, 120), (16, 20, 0))}
 
 # the program takes 131,072 bytes
-MOST_BYTES = 120000
+MOST_BYTES = 125000
 
 
 def shape(words):
@@ -47,28 +48,47 @@ def worked():
     return [reference.hexes(row) for row in WORKED]
 
 
+def with_repeats():
+    return [reference.hexes(row) for row, *_ in reference.REPEATS.values()]
+
+
+def examples():
+    """The examples of checks 1 to 10."""
+    return [reference.hexes(text) for text, _, (check, _) in reference.REFUSALS if check <= 10]
+
+
+def is_stored(name):
+    """Of the boundaries all but most of the largest stations and, with repeated cables, most that differ from others in
+    the sequence of lines alone."""
+    left_out = (name.startswith('sheet, 256 parts') or name.endswith('lines reversed, some turned round')
+                or 'behind others, some turned round' in name or 'the others turned round' in name)
+    return name in LARGE or not left_out
+
+
 def without_discount(rng):
-    out = worked()
-    out += [words for name, words in lists.boundaries() if not name.startswith('sheet, 256 parts') or name in LARGE]
-    wanted = {(a, b): 11 for a in (2, 3, 4) for b in (2, 3, 4)}
+    out = worked() + with_repeats() + examples()
+    out += [words for name, words in lists.boundaries() if is_stored(name)]
+    wanted = {(a, b): 6 for a in (2, 3, 4) for b in (2, 3, 4)}
     while any(wanted.values()):
         words = lists.drawn(rng, 3, 40)
         if wanted[shape(words)]:
             wanted[shape(words)] -= 1
             out.append(words)
     out += [lists.refused(rng) for _ in range(40)]
+    out += [lists.paired(rng, 3, 16) for _ in range(20)]
     return [(words, None, reference.GRID) for words in out]
 
 
 def with_discount(rng):
-    """The worked stations; a cable as long as each ready length up to 512, and one a step longer; an example of each check; the largest stations; random ones."""
+    """The worked stations; a cable as long as each ready length up to 512, and one a step longer; an example of each
+    check; three of the largest stations; random ones."""
     out = [(words, d) for words in worked() for d in DISCOUNTS]
+    out += [(words, d) for words in with_repeats() for d in (0, 1250)]
     for ready, longer in zip(lists.READY, lists.READY[1:]):
         if ready <= 512:
             out += [(lists.with_run(ready), 0), (lists.with_run(ready + 1), rng.choice(lists.HALVES[longer] or [1250]))]
-    for text, _, (check, _) in reference.REFUSALS:
-        if check <= 10:
-            out += [(reference.hexes(text), lists.good_discount(rng)), (reference.hexes(text), lists.bad_discount(rng))]
+    for words in examples():
+        out += [(words, lists.good_discount(rng)), (words, lists.bad_discount(rng))]
     large = dict(lists.boundaries())
     out += [(large[name], d) for name, d in zip(LARGE, (1250, 5, 0))]
     out += [(lists.drawn(rng, 3, 40), lists.good_discount(rng)) for _ in range(40)]
@@ -79,6 +99,7 @@ def with_spacing(rng):
     """The worked stations, without a discount and with one; each fault of a spacing, two at once, and 12 before it; a bad and a good spacing with an example
     of each check; stations at the edge of 4,095, with a discount now and then; random ones."""
     out = [(words, d, spacing) for words in worked() for k, spacing in enumerate(SPACINGS) for d in ((None, 1250) if k < 2 else (None,))]
+    out += [(words, d, SPACINGS[0]) for words in with_repeats() for d in (None, 1250)]
     triangle = worked()[0]
     for place in range(3):
         for k in (0, 64, 65, 65537, 4294967295) if place < 2 else (255, 256, 65536, 4294967295):
@@ -87,10 +108,9 @@ def with_spacing(rng):
             out.append((triangle, None, tuple(given)))
     out += [(triangle, None, spacing) for spacing in ((0, 0, 0), (65, 1, 256), (0, 65, 256), (1, 65, 256), (64, 0, 4294967295))]
     out += [(triangle, d, (0, 65, 256)) for d in (0, 10000, 10001, 4294967295)] + [([], 10001, (1, 1, 256))]
-    for k, (text, _, (check, _)) in enumerate(reference.REFUSALS):
-        if check <= 10:
-            out += [(reference.hexes(text), None if k % 2 else lists.good_discount(rng), lists.bad_spacing(rng)),
-                    (reference.hexes(text), lists.good_discount(rng) if k % 2 else None, lists.good_spacing(rng))]
+    for k, words in enumerate(examples()):
+        out += [(words, None if k % 2 else lists.good_discount(rng), lists.bad_spacing(rng)),
+                (words, lists.good_discount(rng) if k % 2 else None, lists.good_spacing(rng))]
     for what, words, rows in lists.EDGES:
         chosen = EDGES.get(what) or [spacing for spacing, _ in rows]
         out += [(words, 1250 if k % 3 == 2 else None, spacing) for k, spacing in enumerate(chosen)]

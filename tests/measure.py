@@ -197,6 +197,10 @@ def of_ears(rng, n):
 KINDS = (('ladder', lambda rng, n: lists.grid(2, n // 2)), ('grid', lambda rng, n: lists.grid(int(n ** 0.5), int(n ** 0.5))), ('ring', lambda rng, n: lists.ring(n)),
          ('four-regular', lists.four_regular), ('random', of_ears))
 
+# With repeated cables, and shuffled numbers: their parts are joined as those of a ring and of a ladder.
+PAIRED = (('doubled ring', lambda n: lists.doubled(*lists.ring(n))), ('triple ring', lists.triple_ring),
+          ('pair ladder', lambda n: lists.pair_ladder(n // 2)))
+
 
 def stations(sizes=(16, 64, 256)):
     for n in sizes:
@@ -206,6 +210,9 @@ def stations(sizes=(16, 64, 256)):
             _, cables = make(rng, n)
             for numbers in NUMBERS:
                 yield '%s, %s' % (name, numbers), numbered(rng, n, cables, numbers), ROOM
+        for kind, make in PAIRED:
+            name = '%s of %d' % (kind, n)
+            yield name + ', shuffled', numbered(random.Random(name), *make(n), 'shuffled'), ROOM
 
 
 def hung(rng, sizes):
@@ -220,7 +227,8 @@ def hung(rng, sizes):
 
 
 def refusals():
-    """The longest list that each check refuses, with its fault as far behind as it can be; a million words where there is no longest."""
+    """The longest list that each check refuses, with its fault as far behind as it can be; a million words where there is
+    no longest. Of 8 also all pairs of 256 parts, each once; 7 is the number of no check."""
     rng = random.Random(2)
     most = 65535
     long = [lists.cable(0, 1), lists.cable(1, 2)] * 500000
@@ -235,14 +243,19 @@ def refusals():
     yield 'refused 5', full(256, long[:most - 1], [lists.cable(0, 256)]), ROOM
     yield 'refused 6', full(256, long[:most - 1], [lists.cable(255, 255)]), ROOM
     pairs = [lists.cable(a, b) for a, b in sorted(lists.complete(256)[1])]
-    yield 'refused 7', full(256, pairs + pairs + pairs), ROOM
     yield 'refused 8', [lists.head(256, len(pairs)), lists.ends(0, 1)] + pairs, ROOM
+    yield 'refused 8, longest', full(256, most * [lists.cable(254, 255)]), ROOM
     n, cables = lists.four_regular(rng, 251)
     yield 'refused 9', lists.build(256, 0, 1, sorted(cables) + [(n + a, n + b) for a, b in sorted(lists.complete(5)[1])]), ROOM
     n, cables = hung(rng, (128, 127))
     yield 'refused 10', lists.build(n, 0, 1, sorted(cables)), ROOM
     n, cables = lists.four_regular(rng, 256)
     yield 'refused 11', lists.build(n, 0, 255, sorted(cables)), 1797
+
+
+def check_of(name):
+    """The number in the name of a refused list."""
+    return int(re.match(r'refused (\d+)', name)[1])
 
 
 def chosen(rows, asked):
@@ -292,7 +305,7 @@ class Driver(Linked):
         same, result, place, ours, theirs = subprocess.run([self.program, self.keep(words), str(room), str(seconds), *map(str, given)], check=True, stdout=subprocess.PIPE, text=True).stdout.split()
         if same != '1':
             sys.exit('%s: the answers differ' % name)
-        if result != (name.split()[1] if name.startswith('refused') else '0'):
+        if int(result) != (check_of(name) if name.startswith('refused') else 0):
             sys.exit('%s: the result is %s %s' % (name, result, place))
         return float(ours), float(theirs)
 
@@ -389,7 +402,8 @@ def rows():
     for cables, words, cable in ((0, lists.build(256, 0, 255, []), (0, 255)), (256, lists.ring_list(256), (0, 128)), (511, lists.wide_list(256), (0, 255))):
         yield '256 parts, %d cables' % cables, lists.slots(words, 8), cable
     again = reference.two(words[-1])[::-1]
-    yield '256 parts, 511 cables, refused 7', lists.slots(words, 8), again
+    yield '256 parts, 256 cables, repeated', lists.slots(lists.ring_list(256), 8), (255, 0)
+    yield '256 parts, 511 cables, repeated, refused 8', lists.slots(words, 8), again
     yield '256 parts, 511 cables, refused 8', lists.slots(words, 8), (0, 128)
 
 
@@ -424,7 +438,7 @@ def editor(driver, asked):
 # Where the instructions go. The archive has one large function with most others inside: the call, or one that it calls. So each of its instructions is given to
 # the first stage that runs it, told by lists that are refused there, and below that to its loops, told by their backward jumps.
 
-STAGES = (('checks 1 to 8', range(1, 9)), ('check 9', [9]), ('check 10', [10]), ('order, columns, courses', [11]))
+STAGES = (('checks 1 to 8', [1, 2, 3, 4, 5, 6, 8]), ('check 9', [9]), ('check 10', [10]), ('order, columns, courses', [11]))
 LAST = 'words, crossings'
 
 
@@ -507,7 +521,7 @@ def say_functions(by_name, total):
 
 
 def functions(driver, staged, asked):
-    known, stage_of = {int(name.split()[1]): (words, room) for name, words, room in refusals()}, {}
+    known, stage_of = {check_of(name): (words, room) for name, words, room in refusals()}, {}
     drawn = costs(driver.trace('ours', *known[11], ['--dump-instr=yes'])[0])[1]
     large = max(drawn, key=lambda function: len(drawn[function]))
     for stage, checks in STAGES:

@@ -1,5 +1,5 @@
 -- The first refusal of any list of checks: a prefix that finds nothing leaves it to the rest, the first check that finds a place gives it,
--- and a pass is a pass of each check; checks made on another list. Assumes nothing.
+-- and a pass is a pass of each check; a check taken out; checks made on another list. Assumes nothing.
 use Prim.Native.Nat.{ℕ}
 use native.Mathlib.Omega.{arith}
 use mathlib.Core.Path.{_≡_, refl, sym, ap, _∙_}
@@ -98,6 +98,31 @@ module _ (list : List ℕ) where
   pub clear-more : (cs : List Check) (c : Check) → Clear cs list → c .finds list ≡ Nothing → Clear (cs ++ c ∷ []) list
   unfolding firstRefusal
   clear-more cs c h e = clear-append cs (c ∷ []) h (orElse-nothing (c .number) Passed e)
+
+  -- a check c taken out from between others
+  module _ (cs : List Check) (c : Check) (ds : List Check) where
+    -- where one before it refuses, or it finds nothing, nothing changes
+    refused-first : (n p : ℕ) → firstRefusal cs list ≡ Refused n p → firstRefusal (cs ++ ds) list ≡ firstRefusal (cs ++ c ∷ ds) list
+    refused-first n p e = refused-before cs ds n p e ∙ sym (refused-before cs (c ∷ ds) n p e)
+
+    pub found-nothing : c .finds list ≡ Nothing → firstRefusal (cs ++ ds) list ≡ firstRefusal (cs ++ c ∷ ds) list
+    unfolding firstRefusal
+    found-nothing e = go (firstRefusal cs list) refl
+      where
+        go : (v : Verdict) → firstRefusal cs list ≡ v → firstRefusal (cs ++ ds) list ≡ firstRefusal (cs ++ c ∷ ds) list
+        go (Refused n p) h = refused-first n p h
+        go Passed h = rest-decides cs ds h ∙ sym (rest-decides cs (c ∷ ds) h ∙ orElse-nothing (c .number) (firstRefusal ds list) e)
+
+    -- so it gave the refusal, or nothing changes
+    pub taken-out :
+        ((p : ℕ) × (firstRefusal (cs ++ c ∷ ds) list ≡ Refused (c .number) p)) ⊎ (firstRefusal (cs ++ ds) list ≡ firstRefusal (cs ++ c ∷ ds) list)
+    taken-out = go (firstRefusal cs list) refl (c .finds list) refl
+      where
+        go : (v : Verdict) → firstRefusal cs list ≡ v → (f : Found) → c .finds list ≡ f
+            → ((p : ℕ) × (firstRefusal (cs ++ c ∷ ds) list ≡ Refused (c .number) p)) ⊎ (firstRefusal (cs ++ ds) list ≡ firstRefusal (cs ++ c ∷ ds) list)
+        go (Refused n p) e f g = inr (refused-first n p e)
+        go Passed e (At p) g = inl (p, first-found cs c ds p e g)
+        go Passed e Nothing g = inr (found-nothing g)
 
   pub no-check : Clear [] list
   no-check = each-clear [] (λ c m. absurd (List·Memᴰ·not-nil m))

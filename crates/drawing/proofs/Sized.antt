@@ -4,13 +4,18 @@ use Prim.Native.Nat.{ℕ, _+_, _*_, _<_, _≤_, max}
 use native.Mathlib.Nat.{mul-comm}
 use native.Mathlib.Omega.{arith}
 use mathlib.Core.Path.{_≡_, refl, sym, ap, subst, _∙_}
+use mathlib.Core.Logic.{_⊎_}
+use mathlib.Core.Bool.{Bool}
 use mathlib.Core.List.{List, map, map-map, List·Memᴰ, List·Memᴰ·tail, Memᴰ·append-left}
 use lib.ListN.{length, getD, length-map}
+use lib.Dec.{ltb}
+use borrow.Author.Tests.{ltb-true}
 use Rattle.words.specs.Limits.{mostField}
 use Rattle.lists.specs.declared.Found.the-variants.{Nothing}
-use Rattle.lists.specs.Select.{tabulate, count, indexOf}
+use Rattle.lists.specs.Select.{range, tabulate, count, indexOf}
 use Rattle.lists.proofs.Select.{getD-map, getD-mem}
 use Rattle.lists.proofs.Places.{mem-place}
+use Rattle.lists.proofs.Tally.{count-places, count-either}
 use Rattle.lists.proofs.Maps.{map-tabulate}
 use Rattle.lists.proofs.Agree.{tabulate-same}
 use Rattle.lists.proofs.Increasing.{increasing-le}
@@ -21,7 +26,7 @@ use Rattle.drawing.specs.Drawing.{Drawing, Route, noRoute, spotOf, route
 use Rattle.drawing.specs.Spacing.{columnAt, rowAt, spacedSpot, spacedRoute, spaced, check14}
 use Rattle.drawing.specs.Reading.{Endpoints, noEndpoints}
 use Rattle.drawing.specs.Counts.{cornerCount, isCorner}
-use Rattle.drawing.specs.Sizes.{Sizes, Bends}
+use Rattle.drawing.specs.Sizes.{Sizes, ManyBends, Bends}
 use Rattle.drawing.proofs.ReadBack.{SpotFits, DrawingFits}
 use Rattle.drawing.proofs.Spaced.{Increases, parts-spaced, routes-spaced, spot-spaced, first-spaced, last-spaced, corners-spaced, points-spaced}
 use Rattle.drawing.proofs.Fields.{Within, width-small, height-small, fields-small}
@@ -248,7 +253,41 @@ module _ (s : Spacing) (I : Increases s) (d : Drawing) (M : Meets d) (n m : ℕ)
     corners = omega (arith, e, S .corners);
   }
 
+-- the cables with more than two corners, where only two lines can be theirs
+pub many-bends-of :
+    (m bottom top : ℕ) (d : Drawing) → length (d .routes) ≡ m
+    → ((i : ℕ) → i < m → 2 < length (routeAt d i .corners) → (i ≡ bottom) ⊎ (i ≡ top)) → ((i : ℕ) → i < m → length (routeAt d i .corners) ≤ 3)
+    → ManyBends m bottom top d
+unfolding routeAt
+many-bends-of m bottom top d routes which most = record { few = few; which = which; most = most }
+  where
+    many : ℕ → Bool
+    many i = ltb 2 (length (getD (d .routes) i noRoute .corners))
+
+    few : count (λ (r : Route). ltb 2 (length (r .corners))) (d .routes) ≤ 2
+    few =
+        omega (
+          arith,
+          count-places (λ (r : Route). ltb 2 (length (r .corners))) (d .routes) noRoute,
+          ap (λ (k : ℕ). count many (range k)) routes,
+          count-either many m bottom top (λ i h e. which i h (ltb-true 2 _ e)),
+        )
+
 -- each cable's corners, with other numbers of the parts, and on the sheet
+pub many-bends-renumbered :
+    (names : List ℕ) (d : Drawing) (m bottom top : ℕ) → length (d .routes) ≡ m → ManyBends m bottom top d → ManyBends m bottom top (renumbered names d)
+many-bends-renumbered names d m bottom top routes B =
+    many-bends-of m bottom top (renumbered names d) (routes-renumbered names d ∙ routes)
+    (λ i h l. B .which i h (omega (arith, ap length (corners-renumbered names d i (omega (arith, routes))))))
+    (λ i h. omega (arith, ap length (corners-renumbered names d i (omega (arith, routes))), B .most i h))
+
+pub many-bends-spaced :
+    (s : Spacing) (d : Drawing) (m bottom top : ℕ) → length (d .routes) ≡ m → ManyBends m bottom top d → ManyBends m bottom top (spaced s d)
+many-bends-spaced s d m bottom top routes B =
+    many-bends-of m bottom top (spaced s d) (routes-spaced s d ∙ routes)
+    (λ i h l. B .which i h (omega (arith, ap length (corners-spaced s d i (omega (arith, routes))), length-map (routeAt d i .corners) (spacedSpot s))))
+    (λ i h. omega (arith, ap length (corners-spaced s d i (omega (arith, routes))), length-map (routeAt d i .corners) (spacedSpot s), B .most i h))
+
 pub bends-renumbered : (names : List ℕ) (d : Drawing) (m : ℕ) → length (d .routes) ≡ m → Bends m d → Bends m (renumbered names d)
 bends-renumbered names d m routes B = record { most = λ i h. omega (arith, ap length (corners-renumbered names d i (omega (arith, routes))), B .most i h) }
 

@@ -2,13 +2,15 @@
 -- sheet, and of its words. Assumes nothing.
 use Prim.Native.Nat.{ℕ, _+_, _*_, _-_, _<_, _≤_}
 use mathlib.Core.Path.{_≡_}
+use mathlib.Core.Logic.{_⊎_}
 use mathlib.Core.List.{List}
 use lib.ListN.{length}
+use lib.Dec.{ltb}
 use Rattle.lists.specs.Select.{count}
 use Rattle.prices.specs.declared.Discount.{Discount}
 use Rattle.drawing.specs.declared.spacing.Spacing.{Spacing}
 use Rattle.geometry.specs.Lines.{point}
-use Rattle.drawing.specs.Drawing.{Drawing, spotOf, routeAt, pointsAt}
+use Rattle.drawing.specs.Drawing.{Route, Drawing, spotOf, routeAt, pointsAt}
 use Rattle.drawing.specs.Counts.{isCorner, quoteCount}
 
 pub record Sizes (spacing : Spacing) (n m : ℕ) (grid d : Drawing) (sheet : List ℕ) : Type 0 where
@@ -36,6 +38,13 @@ pub record Exactly (discount : Discount) (n m below above : ℕ) (grid : Drawing
   pub corners : count isCorner sheet + 2 * n ≡ 2 * m + 2 + below + above
   pub words : length sheet + n ≡ 3 * m + 3 + below + above + (m + 1) + quoteCount discount m
 
--- 2026-04, in place of 'at most two cables have more than two': 'no cable has more than two corners', of m cables
+-- 'at most two cables have more than two' corners, of m cables: those at the lines of the bottom and of the top connection (source 000's
+-- terms), and these have three
+pub record ManyBends (m bottom top : ℕ) (d : Drawing) : Type 0 where
+  pub few : count (λ (r : Route). ltb 2 (length (r .corners))) (d .routes) ≤ 2
+  pub which : (i : ℕ) → i < m → 2 < length (routeAt d i .corners) → (i ≡ bottom) ⊎ (i ≡ top)
+  pub most : (i : ℕ) → i < m → length (routeAt d i .corners) ≤ 3
+
+-- 2026-04: 'no cable has more than two corners', of m cables
 pub record Bends (m : ℕ) (d : Drawing) : Type 0 where
   pub most : (i : ℕ) → i < m → length (routeAt d i .corners) ≤ 2

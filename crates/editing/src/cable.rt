@@ -1,54 +1,19 @@
-// Checks 5 to 8 of a list with one more cable, made on the list as it is: it has passed them, so that only the new cable can fail.
+// Checks 5, 6 and 8 of a list with one more cable, made on the list as it is: it has passed them, so that only the new cable can fail.
 use checks::Verdict;
 use listing::fields;
 use lists::Found;
 use lists::higher;
 use lists::lower;
-use words::Word;
 use words::limits::MOST_DEGREE;
 ghost use mathlib.Core.Path.{_≡_};
 ghost use mathlib.Core.Bool.{_||_};
 ghost use Prim.Native.Nat.{_<_};
 ghost use lib.Dec.{leb};
-ghost use Rattle.words.specs.Words.{cableWord};
 ghost use Rattle.station.specs.Station.{stationOf};
 ghost use Rattle.checks.specs.Checks.{Clear, firstRefusal};
-ghost use Rattle.station.specs.Checks.{listChecks, check8, sameParts};
+ghost use Rattle.station.specs.Checks.{listChecks, check8};
 ghost use Rattle.editor.specs.Rows.{longer};
 ghost use Rattle.editor.specs.Checks.{cableChecks};
-ghost use Rattle.editing.specs.Code.{InFields};
-ghost use Rattle.editor.specs.Code.{joinedIn};
-
-// The word joins the same two parts, either way round.
-fn joins_same(w: u32, one: u32, other: u32) -> bool
-    requires { ⌜ InFields one other ⌝ }
-    ensures { λ r. ⌜ r ≡ sameParts w (cableWord one other) ⌝ }
-{
-    let first = Word(w).first() as u32;
-    let second = Word(w).second() as u32;
-    if first == one {
-        return second == other;
-    }
-    if first == other {
-        return second == one;
-    }
-    false
-}
-
-// 7: an earlier cable joins the same two parts.
-fn is_repeated(list: &[u32], one: u32, other: u32) -> bool
-    requires { ⌜ InFields one other ⌝ }
-    ensures { λ r. ⌜ r ≡ joinedIn one other (now (list .entry)) ⌝ }
-{
-    let mut i = 2;
-    while i < list.len() {
-        if joins_same(list[i], one, other) {
-            return true;
-        }
-        i += 1;
-    }
-    false
-}
 
 // 8: the lower of the two parts that has as many cables as it may.
 fn crowded_end(list: &[u32], one: usize, other: usize) -> Found
@@ -89,9 +54,6 @@ pub fn check_cable(list: &[u32], one: u32, other: u32) -> Verdict
     }
     if one == other {
         return Verdict::Refused { check: 6, place };
-    }
-    if is_repeated(list, one, other) {
-        return Verdict::Refused { check: 7, place };
     }
     if let Found::At(part) = crowded_end(list, one as usize, other as usize) {
         return Verdict::Refused {

@@ -1,5 +1,5 @@
 -- A list that passes checks 1 to 8, with one more cable, whose parts have room in their fields: what each of checks 1 to 8 finds. Checks 1
--- to 4 find nothing, 5 to 7 nothing but the new word, and 8 nothing but its two parts. Assumes nothing.
+-- to 4 find nothing, 5 and 6 nothing but the new word, and 8 nothing but its two parts. Assumes nothing.
 use Prim.Native.Nat.{ℕ, suc, _+_, _-_, _<_, _≤_, min, max}
 use native.Mathlib.Omega.{arith}
 use native.Mathlib.Decide.{ℕ-discrete, decLt}
@@ -11,26 +11,24 @@ use lib.ListN.{length, getD, set, length-set}
 use lib.Seq.{getD-append-seam}
 use lib.Dec.{eqb, ltb}
 use Rattle.lists.specs.declared.Found.the-variants.{At, Nothing}
-use Rattle.lists.specs.Search.{seek, isFound}
+use Rattle.lists.specs.Search.{seek}
 use Rattle.lists.specs.Select.{oneIf, count, filter}
 use Rattle.lists.proofs.Seek.{seek-last, seek-none, seek-nothing, seek-first}
-use Rattle.lists.proofs.Filters.{seek-same}
 use Rattle.lists.proofs.Sums.{count-append}
 use Rattle.lists.proofs.Tests.{oneIf-le}
 use Rattle.words.specs.Words.{kindOf, spareOf, firstOf, secondOf, partsOf, cablesOf, listHead, cableWord}
 use Rattle.words.specs.Limits.{leastParts, mostParts, mostDegree, mostField}
 use Rattle.station.specs.Station.{cableOf, stationOf, joins, degree}
 use Rattle.checks.specs.Checks.{firstRefusal, Clear, atWhen}
-use Rattle.station.specs.Checks.{check1, kindAt, misplaced, check2, check3, check4, outside, check5, check6, sameParts, repeated, check7, check8, listChecks}
+use Rattle.station.specs.Checks.{check1, kindAt, misplaced, check2, check3, check4, outside, check5, check6, check8, listChecks}
 use Rattle.station.specs.Code.{upTo}
 use Rattle.station.proofs.UpTo.{clear-upTo}
 use Rattle.checks.proofs.FirstRefusal.{clear-each, clear-more}
-use Rattle.station.proofs.Each.{two-words, placed, words-due, parts-between, different, unrepeated, degree-most}
+use Rattle.station.proofs.Each.{two-words, placed, words-due, parts-between, different, degree-most}
 use Rattle.station.proofs.Tests.{misplaced-head, misplaced-spare, length-right, parts-right}
 use Rattle.station.proofs.Cables.{parts-are, cables-count}
 use Rattle.station.proofs.Passed.{wired, cables-most}
 use Rattle.editor.specs.Rows.{raisedBy, followedBy, longer}
-use Rattle.editor.specs.Code.{joinedIn}
 use Rattle.editor.proofs.Tests.{first-is, second-is}
 use Rattle.editor.proofs.Followed.{raised-parts, raised-cables, raised-kind, length-followed, head-followed, word-followed, cables-followed}
 
@@ -130,12 +128,9 @@ module _ (list : List ℕ) (C : Clear listChecks list) where
         three-clear)
         four-clear
 
-    -- ---- checks 5 to 7
+    -- ---- checks 5 and 6
     behind-first : length new - 1 ≡ suc (length list - 1)
     behind-first = omega (arith, length-longer, two)
-
-    behind-second : length new - 2 ≡ suc (length list - 2)
-    behind-second = omega (arith, length-longer, two)
 
     -- the new word alone decides a search over the words from 1 on, where the list passes
     new-decides : (test : ℕ → Bool) → ((i : ℕ) → 1 ≤ i → i < length list → test (getD list i 0) ≡ false)
@@ -161,26 +156,6 @@ module _ (list : List ℕ) (C : Clear listChecks list) where
     six-last =
         new-decides (λ w. eqb (firstOf w) (secondOf w)) (λ i g h. ne-eqb (firstOf (getD list i 0)) (secondOf (getD list i 0)) (different list 8 all (omega arith) i g h))
         ∙ rw (first-is one other a b, second-is one other a b)
-
-    -- the cables before word i, of either list
-    earlier-same : (i w : ℕ) → i ≤ length list → isFound (seek (λ j. sameParts (getD new j 0) w) 2 (i - 2)) ≡ isFound (seek (λ j. sameParts (getD list j 0) w) 2 (i - 2))
-    earlier-same i w h =
-        ap isFound (seek-same (λ j. sameParts (getD new j 0) w) (λ j. sameParts (getD list j 0) w) 2 (i - 2) (λ j g l. ap (λ (v : ℕ). sameParts v w) (word-kept j (omega arith) (omega arith))))
-
-    not-repeated : (i : ℕ) → 2 ≤ i → i < length list → repeated new i ≡ false
-    unfolding repeated
-    not-repeated i g h =
-        rw (word-kept i (omega arith) h)
-        (earlier-same i (getD list i 0) (omega arith)
-        ∙ ap isFound (seek-none (λ j. sameParts (getD list j 0) (getD list i 0)) 2 (i - 2) (λ j a l. unrepeated list 8 all (omega arith) j i a (omega arith) h)))
-
-    pub seven-last : check7 (longer one other list) ≡ atWhen (joinedIn one other list) (length list)
-    unfolding check7 repeated atWhen joinedIn
-    seven-last =
-        let e : 2 + (length list - 2) ≡ length list = omega (arith, two) in
-        rw behind-second
-        (seek-last (repeated new) 2 (length list - 2) (λ i g h. not-repeated i g (omega arith))
-        ∙ rw (e, word-last, earlier-same (length list) word (omega arith)))
 
     -- ---- check 8
     -- one cable more at each of its two parts

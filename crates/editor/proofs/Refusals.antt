@@ -4,18 +4,17 @@ use native.Mathlib.Omega.{arith}
 use native.Mathlib.Decide.{ℕ-discrete, decLt}
 use mathlib.Core.Path.{_≡_, refl, sym, ap, _∙_, subst}
 use mathlib.Core.Logic.{_⊎_, inl, inr}
-use mathlib.Core.List.{List, map, List·Memᴰ}
+use mathlib.Core.List.{List, [], _∷_, List·Memᴰ, List·Memᴰ·tail}
 use lib.ListN.{length, getD}
 use Rattle.lists.specs.Select.{upFrom}
-use Rattle.lists.proofs.Select.{upFrom-e}
 use Rattle.words.specs.Words.{partsOf}
 use Rattle.checks.specs.declared.Verdict.{Verdict}
 use Rattle.checks.specs.declared.Verdict.the-variants.{Passed, Refused}
 use Rattle.station.specs.Station.{stationOf}
-use Rattle.checks.specs.Checks.{Check, firstRefusal, Clear}
+use Rattle.checks.specs.Checks.{firstRefusal, Clear}
 use Rattle.station.specs.Checks.{listChecks}
-use Rattle.station.proofs.Computing.{station-computing}
-use Rattle.checks.proofs.FirstRefusal.{rest-decides, refused-before, refused-number}
+use Rattle.checks.proofs.FirstRefusal.{rest-decides, refused-before}
+use Rattle.station.proofs.Numbers.{Numbered, without-7, list-number}
 use Rattle.station.proofs.Cables.{parts-are, cables-count}
 use Rattle.station.proofs.Passed.{wired, cables-few}
 use Rattle.editor.specs.declared.Proposal.{Proposal}
@@ -23,25 +22,21 @@ use Rattle.editor.specs.Rows.{present, listIn, longer}
 use Rattle.editor.specs.Checks.{rowChecks, cableChecks, newChecks, proposeChecks, commitChecks}
 use Rattle.editor.proofs.Rows.{head-is, length-due}
 use Rattle.editor.proofs.Longer.{length-longer, parts-longer}
-use Rattle.editor.proofs.Verdicts.{row-verdict, cable-fits, cable-refused, no-room, new-passed, among-5-to-8}
+use Rattle.editor.proofs.Verdicts.{row-verdict, cable-fits, cable-refused, no-room, new-passed, among-5-6-8}
 use Rattle.editor.proofs.Commits.{row-refused, stale-refused, present-decides}
 
--- trying: 1 to 8, or 16
+-- trying: 1 to 8 without 7, or 16
 abbrev pub WhenProposed : ℕ → Type 0
-WhenProposed check = ((1 ≤ check) × (check ≤ 8)) ⊎ (check ≡ 16)
+WhenProposed check = Numbered 8 check ⊎ (check ≡ 16)
 
 -- laying: these, or 15
 abbrev pub WhenCommitted : ℕ → Type 0
 WhenCommitted check = WhenProposed check ⊎ (check ≡ 15)
 
-numbered : map (λ (c : Check). c .number) listChecks ≡ upFrom 1 8
-unfolding station-computing
-numbered = refl
-
-list-numbers : (list : List ℕ) {check place : ℕ} → firstRefusal listChecks list ≡ Refused check place → (1 ≤ check) × (check ≤ 8)
-list-numbers list e =
-    let numbers = upFrom-e 1 8 (subst (List·Memᴰ _) numbered (refused-number list listChecks e)) in
-    (numbers .0, omega (arith, numbers .1))
+-- one of 5, 6 and 8 is one of 1 to 8
+of-list : {check : ℕ} → List·Memᴰ check (5 ∷ 6 ∷ 8 ∷ []) → Numbered 8 check
+unfolding upFrom
+of-list m = without-7 1 (List·Memᴰ·tail (List·Memᴰ·tail (List·Memᴰ·tail (List·Memᴰ·tail m))))
 
 same-number : {v : Verdict} {check place n p : ℕ} → v ≡ Refused check place → v ≡ Refused n p → check ≡ n
 same-number e f = cc
@@ -61,12 +56,12 @@ module _ (one other : ℕ) (row : List ℕ) (C : Clear listChecks (listIn row)) 
       go Passed f = room f (decLt (present row + 2) (length row))
       go (Refused n p) f =
           let q = same-number e (cable-refused one other row n p f) in
-          let b = among-5-to-8 (listIn row) C one other f in
-          inl (omega (arith, q, b .0), omega (arith, q, b .1))
+          let b = among-5-6-8 (listIn row) C one other f in
+          inl (subst (Numbered 8) (sym q) (of-list b))
 
 module _ (row : List ℕ) where
-  row-numbers : {check place : ℕ} → firstRefusal rowChecks row ≡ Refused check place → (1 ≤ check) × (check ≤ 8)
-  row-numbers e = list-numbers (listIn row) (sym (row-verdict row) ∙ e)
+  row-numbers : {check place : ℕ} → firstRefusal rowChecks row ≡ Refused check place → Numbered 8 check
+  row-numbers e = list-number (listIn row) (sym (row-verdict row) ∙ e)
 
   passed : Clear rowChecks row → Clear listChecks (listIn row)
   passed f = sym (row-verdict row) ∙ f
@@ -79,8 +74,7 @@ module _ (row : List ℕ) where
       go Passed f = new-numbers one other row (passed f) (sym (rest-decides row rowChecks (newChecks one other) f) ∙ e)
       go (Refused n p) f =
           let q = same-number e (refused-before row rowChecks (newChecks one other) n p f) in
-          let b = row-numbers f in
-          inl (omega (arith, q, b .0), omega (arith, q, b .1))
+          inl (subst (Numbered 8) (sym q) (row-numbers f))
 
   pub commit-refusals : (p : Proposal) {check place : ℕ} → firstRefusal (commitChecks p) row ≡ Refused check place → WhenCommitted check
   commit-refusals p {check} {place} e = go (firstRefusal rowChecks row) refl
@@ -93,8 +87,7 @@ module _ (row : List ℕ) where
       go Passed f = version (passed f) (ℕ-discrete (p .version) (present row))
       go (Refused n q) f =
           let k = same-number e (row-refused p row n q f) in
-          let b = row-numbers f in
-          inl (inl (omega (arith, k, b .0), omega (arith, k, b .1)))
+          inl (inl (subst (Numbered 8) (sym k) (row-numbers f)))
 
 -- in a row of 2n + 2 words there is room for every cable that passes its checks, so that 16 never comes
 pub always-room : (one other : ℕ) (row : List ℕ) → Clear listChecks (listIn row) → Clear (cableChecks one other) (listIn row)

@@ -41,7 +41,9 @@ operations =
 record Table : Type 0 where
   tried : proposed 0 1 row0 ≡ answer.Valid (proposal 0 1 0)
   laid-first : effect (Commit (proposal 0 1 0)) row0 ≡ record { verdict = Passed; row = row1 }
-  turned-round : proposed 1 0 row1 ≡ answer.Refused 7 3
+  -- 2026-12: a repeated cable is tried and laid as any other, either way round
+  repeated : proposed 0 1 row1 ≡ answer.Valid (proposal 0 1 1)
+  turned-round : effect (Commit (proposal 1 0 1)) row1 ≡ record { verdict = Passed; row = 0x10030002 ∷ 0x20000002 ∷ 0x30000001 ∷ 0x30001000 ∷ [] }
   tried-second : proposed 1 2 row1 ≡ answer.Valid (proposal 1 2 1)
   laid-second : effect (Commit (proposal 1 2 1)) row1 ≡ record { verdict = Passed; row = row2 }
   laid-again : effect (Commit (proposal 0 1 0)) row2 ≡ record { verdict = Refused 15 2; row = row2 }
@@ -58,9 +60,10 @@ record Table : Type 0 where
   -- a number of which the field would hold another cable's
   large-first : proposed 4097 2 row1 ≡ answer.Refused 5 3
   crowded : proposed 5 0 star ≡ answer.Refused 8 0
+  repeat-crowded : proposed 1 0 star ≡ answer.Refused 8 0
   uncrowded : proposed 1 5 star ≡ answer.Valid (proposal 1 5 4)
   -- 5 to 8 before 16, and 15 before all of them
-  seven-before-sixteen : proposed 1 0 row2 ≡ answer.Refused 7 4
+  six-before-sixteen : proposed 1 1 row2 ≡ answer.Refused 6 4
   fifteen-before-five : effect (Commit (proposal 0 4096 1)) row2 ≡ record { verdict = Refused 15 2; row = row2 }
   -- 'a row too short fails check 1 or 3'
   no-words : proposed 0 1 [] ≡ answer.Refused 1 0
@@ -73,6 +76,7 @@ unfolding editor-computing
 table = record {
   tried = refl;
   laid-first = refl;
+  repeated = refl;
   turned-round = refl;
   tried-second = refl;
   laid-second = refl;
@@ -87,8 +91,9 @@ table = record {
   large = refl;
   large-first = refl;
   crowded = refl;
+  repeat-crowded = refl;
   uncrowded = refl;
-  seven-before-sixteen = refl;
+  six-before-sixteen = refl;
   fifteen-before-five = refl;
   no-words = refl;
   one-word = refl;

@@ -1,10 +1,10 @@
 -- What the checks of an operation say, from those of the list and of the list with the new cable. Assumes nothing.
-use Prim.Native.Nat.{ℕ, _+_, _-_, _<_, _≤_}
+use Prim.Native.Nat.{ℕ, _+_, _<_, _≤_}
 use native.Mathlib.Omega.{arith}
 use native.Mathlib.Decide.{decLt}
 use mathlib.Core.Path.{_≡_, refl, sym, _∙_}
 use mathlib.Core.Bool.{Bool, true, false, _||_, or-true}
-use mathlib.Core.List.{List, [], _∷_, List·Memᴰ, List·Memᴰ·head, List·Memᴰ·tail}
+use mathlib.Core.List.{List, [], _∷_, List·Memᴰ, List·Memᴰ·head}
 use borrow.Author.Tests.{ltb-false, lt-ltb, le-ltb, le-leb, lt-leb, eq-eqb, ne-eqb}
 use lib.ListN.{length, getD}
 use lib.Dec.{ltb, leb}
@@ -15,14 +15,13 @@ use Rattle.words.specs.Words.{partsOf}
 use Rattle.words.specs.Limits.{mostField}
 use Rattle.checks.specs.declared.Verdict.the-variants.{Passed, Refused}
 use Rattle.checks.specs.Checks.{orElse, firstRefusal, Clear, atWhen, madeOn}
-use Rattle.station.specs.Checks.{check5, check6, check7, check8, outside, listChecks}
+use Rattle.station.specs.Checks.{check5, check6, check8, outside, listChecks}
 use Rattle.station.specs.Code.{upTo}
 use Rattle.checks.proofs.FirstRefusal.{rest-decides, first-found, refused-before, refused-number, clear-rest, clear-more, clear-each, atWhen-nothing, made-on}
 use Rattle.editor.specs.Rows.{present, listIn, longer}
-use Rattle.editor.specs.Code.{joinedIn}
 use Rattle.editor.specs.Checks.{rowChecks, beyondField, cableChecks, check16, newChecks}
 use Rattle.editor.proofs.Tests.{first-is, second-is}
-use Rattle.editor.proofs.Longer.{due, between, form-clear, five-last, six-last, seven-last}
+use Rattle.editor.proofs.Longer.{due, between, form-clear, five-last, six-last}
 
 pub row-verdict : (row : List ℕ) → firstRefusal rowChecks row ≡ firstRefusal listChecks (listIn row)
 unfolding rowChecks
@@ -40,19 +39,11 @@ module _ (list : List ℕ) (C : Clear listChecks list) (one other : ℕ) where
   list-decides a b = rw (le-ltb mostField one a, le-ltb mostField other b) (made-on (longer one other) listChecks list)
 
   -- of the longer list only these can apply
-  late : one ≤ mostField → other ≤ mostField → {check place : ℕ} → firstRefusal listChecks (longer one other list) ≡ Refused check place → (5 ≤ check) × (check ≤ 8)
+  late : one ≤ mostField → other ≤ mostField → {check place : ℕ} → firstRefusal listChecks (longer one other list) ≡ Refused check place → List·Memᴰ check (5 ∷ 6 ∷ 8 ∷ [])
   unfolding listChecks filter
-  late a b {check} e =
-      numbers
-      (refused-number (longer one other list)
-      (record { number = 5; finds = check5 } ∷ record { number = 6; finds = check6 } ∷ record { number = 7; finds = check7 } ∷ record { number = 8; finds = check8 } ∷ [])
-      (sym (rest-decides (longer one other list) (upTo 4) _ (form-clear list C one other a b)) ∙ e))
-    where
-      numbers : List·Memᴰ check (5 ∷ 6 ∷ 7 ∷ 8 ∷ []) → (5 ≤ check) × (check ≤ 8)
-      numbers (List·Memᴰ·head q) = (omega arith, omega arith)
-      numbers (List·Memᴰ·tail (List·Memᴰ·head q)) = (omega arith, omega arith)
-      numbers (List·Memᴰ·tail (List·Memᴰ·tail (List·Memᴰ·head q))) = (omega arith, omega arith)
-      numbers (List·Memᴰ·tail (List·Memᴰ·tail (List·Memᴰ·tail (List·Memᴰ·head q)))) = (omega arith, omega arith)
+  late a b e =
+      refused-number (longer one other list) (record { number = 5; finds = check5 } ∷ record { number = 6; finds = check6 } ∷ record { number = 8; finds = check8 } ∷ [])
+      (sym (rest-decides (longer one other list) (upTo 4) _ (form-clear list C one other a b)) ∙ e)
 
   -- where the longer list has a part number n or more
   five-found : (a : one ≤ mostField) (b : other ≤ mostField) → (leb (partsOf (getD list 0 0)) one || leb (partsOf (getD list 0 0)) other) ≡ true
@@ -100,24 +91,13 @@ module _ (list : List ℕ) (C : Clear listChecks list) (one other : ℕ) where
       clear-6 =
           clear-more (longer one other list) (upTo 5) (record { number = 6; finds = check6 }) clear-5 (six-last list C one other small-one small-other ∙ rw (ne-eqb one other differ))
 
-      pub refused-7 : joinedIn one other list ≡ true → firstRefusal (cableChecks one other) list ≡ Refused 7 (length list)
-      unfolding listChecks filter atWhen
-      refused-7 e =
-          list-decides small-one small-other
-          ∙ first-found (longer one other list) (upTo 6) (record { number = 7; finds = check7 }) _ (length list) clear-6 (seven-last list C one other small-one small-other ∙ rw e)
+      pub refused-8 : (p : ℕ) → check8 (longer one other list) ≡ At p → firstRefusal (cableChecks one other) list ≡ Refused 8 p
+      unfolding listChecks filter
+      refused-8 p e = list-decides small-one small-other ∙ first-found (longer one other list) (upTo 6) (record { number = 8; finds = check8 }) [] p clear-6 e
 
-      module _ (fresh : joinedIn one other list ≡ false) where
-        clear-7 : Clear (upTo 7) (longer one other list)
-        unfolding listChecks filter atWhen
-        clear-7 = clear-more (longer one other list) (upTo 6) (record { number = 7; finds = check7 }) clear-6 (seven-last list C one other small-one small-other ∙ rw fresh)
-
-        pub refused-8 : (p : ℕ) → check8 (longer one other list) ≡ At p → firstRefusal (cableChecks one other) list ≡ Refused 8 p
-        unfolding listChecks filter
-        refused-8 p e = list-decides small-one small-other ∙ first-found (longer one other list) (upTo 7) (record { number = 8; finds = check8 }) [] p clear-7 e
-
-        pub all-passed : check8 (longer one other list) ≡ Nothing → firstRefusal (cableChecks one other) list ≡ Passed
-        unfolding listChecks filter
-        all-passed e = list-decides small-one small-other ∙ clear-more (longer one other list) (upTo 7) (record { number = 8; finds = check8 }) clear-7 e
+      pub all-passed : check8 (longer one other list) ≡ Nothing → firstRefusal (cableChecks one other) list ≡ Passed
+      unfolding listChecks filter
+      all-passed e = list-decides small-one small-other ∙ clear-more (longer one other list) (upTo 6) (record { number = 8; finds = check8 }) clear-6 e
 
 -- where they find nothing: both numbers fit their fields, and the longer list passes
 pub cable-fits : (one other : ℕ) (list : List ℕ) → Clear (cableChecks one other) list → (one ≤ mostField) × (other ≤ mostField) × Clear listChecks (longer one other list)
@@ -149,14 +129,14 @@ module _ (one other : ℕ) (row : List ℕ) where
         clear-more row (madeOn listIn (cableChecks one other)) (record { number = 16; finds = check16 }) (made-on listIn (cableChecks one other) row ∙ C)
         (rw (lt-leb (length row) (present row + 2) h))
 
--- ---- 'the refusal among 5 to 8 that the longer list would get'
-pub among-5-to-8 : (list : List ℕ) → Clear listChecks list → (one other : ℕ) {check place : ℕ} → firstRefusal (cableChecks one other) list ≡ Refused check place → (5 ≤ check) × (check ≤ 8)
-among-5-to-8 list C one other {check} {place} e = go (decLt mostField one) (decLt mostField other)
+-- ---- 'the refusal among 5 to 8 that the longer list would get'; 7 'no longer occurs' (2026-12)
+pub among-5-6-8 : (list : List ℕ) → Clear listChecks list → (one other : ℕ) {check place : ℕ} → firstRefusal (cableChecks one other) list ≡ Refused check place → List·Memᴰ check (5 ∷ 6 ∷ 8 ∷ [])
+among-5-6-8 list C one other {check} {place} e = go (decLt mostField one) (decLt mostField other)
   where
-    five : firstRefusal (cableChecks one other) list ≡ Refused 5 (length list) → (5 ≤ check) × (check ≤ 8)
-    five f = let q : check ≡ 5 = cc in (omega arith, omega arith)
+    five : firstRefusal (cableChecks one other) list ≡ Refused 5 (length list) → List·Memᴰ check (5 ∷ 6 ∷ 8 ∷ [])
+    five f = let q : check ≡ 5 = cc in List·Memᴰ·head q
 
-    go : Dec (mostField < one) → Dec (mostField < other) → (5 ≤ check) × (check ≤ 8)
+    go : Dec (mostField < one) → Dec (mostField < other) → List·Memᴰ check (5 ∷ 6 ∷ 8 ∷ [])
     go (yes h) d = five (too-large list C one other (rw (lt-ltb mostField one h)))
     go (no h) (yes k) = five (too-large list C one other (rw (lt-ltb mostField other k) (or-true (ltb mostField one))))
     go (no h) (no k) = late list C one other (omega arith) (omega arith) (sym (list-decides list C one other (omega arith) (omega arith)) ∙ e)

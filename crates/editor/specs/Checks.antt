@@ -19,7 +19,8 @@ rowChecks = madeOn listIn listChecks
 unfoldable pub beyondField : ℕ → ℕ → List ℕ → Found
 beyondField one other list = atWhen (ltb mostField one || ltb mostField other) (present list + 2)
 
--- 'the refusal .. that the longer list would get'; that it is 'among 5 to 8' is a law (`among-5-to-8` in proofs/Verdicts)
+-- 'the refusal .. that the longer list would get'; that it is 'among 5 to 8', and never 7 (2026-12), is a law (`among-5-6-8` in
+-- proofs/Verdicts)
 unfoldable pub cableChecks : ℕ → ℕ → List Check
 cableChecks one other = record { number = 5; finds = beyondField one other } ∷ madeOn (longer one other) listChecks
 

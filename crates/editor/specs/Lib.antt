@@ -3,5 +3,3 @@ pub mod Rows
 pub mod Checks
 pub mod Operations
 pub mod Runs
--- What only laws and the contracts of code cite
-pub mod Code

@@ -1,9 +1,10 @@
--- Bounds of an answer: a refusal's number is 1 to 14; 12, 13 and 14 come where the check of the discount, of the spacing and of the drawing
--- as it is spaced applies, and 11 only where the output has fewer than `mostWordsFor` words, which no sheet exceeds. Assumes nothing.
+-- Bounds of an answer: a refusal's number is 1 to 14, but never 7; 12, 13 and 14 come where the check of the discount, of the spacing and
+-- of the drawing as it is spaced applies, and 11 only where the output has fewer than `mostWordsFor` words, which no sheet exceeds. Assumes
+-- nothing.
 use Prim.Native.Nat.{ℕ, _<_, _≤_}
 use mathlib.Core.Path.{_≡_, refl, sym, _∙_, subst}
 use mathlib.Core.Bool.{Bool, true, false, cond}
-use mathlib.Core.List.{List, map, List·Memᴰ}
+use mathlib.Core.List.{List, _++_, map, List·Memᴰ}
 use native.Mathlib.Omega.{arith}
 use lib.ListN.{length}
 use lib.Dec.{ltb}
@@ -11,9 +12,9 @@ use borrow.Author.Tests.{ltb-true, ltb-false}
 use Rattle.lists.specs.declared.Found.{Found}
 use Rattle.lists.specs.declared.Found.the-variants.{At, Nothing}
 use Rattle.lists.specs.Select.{upFrom}
-use Rattle.lists.proofs.Select.{upFrom-e}
 use Rattle.prices.specs.Discounts.{check12}
 use Rattle.station.specs.Station.{stationOf}
+use Rattle.station.proofs.Numbers.{Numbered, without-7}
 use Rattle.checks.specs.declared.Verdict.{Verdict}
 use Rattle.checks.specs.declared.Verdict.the-variants.{Passed, Refused}
 use Rattle.checks.specs.Checks.{Check, firstRefusal, Clear}
@@ -33,14 +34,12 @@ use Rattle.hookup.proofs.Demand3.{sheetOf, words-most}
 
 -- Checks 1 to 10
 
-numbered : map (λ (c : Check). c .number) allChecks ≡ upFrom 1 10
+numbered : map (λ (c : Check). c .number) allChecks ≡ upFrom 1 6 ++ upFrom 8 3
 unfolding order-computing
 numbered = refl
 
-verdict-between : (list : List ℕ) {check place : ℕ} → firstRefusal allChecks list ≡ Refused check place → (1 ≤ check) × (check ≤ 10)
-verdict-between list e =
-    let numbers = upFrom-e 1 10 (subst (List·Memᴰ _) numbered (refused-number list allChecks e)) in
-    (numbers .0, omega (arith, numbers .1))
+verdict-between : (list : List ℕ) {check place : ℕ} → firstRefusal allChecks list ≡ Refused check place → Numbered 10 check
+verdict-between list {check} e = without-7 3 (subst (List·Memᴰ check) numbered (refused-number list allChecks e))
 
 -- All checks
 
@@ -48,6 +47,8 @@ verdict-between list e =
 pub record Refusal (options : Options) (list : List ℕ) (room check place : ℕ) : Type 0 where
   pub least : 1 ≤ check
   pub most : check ≤ 14
+  -- 2026-12: 'check 7 no longer occurs'
+  pub not-7 : check ≡ 7 → ⊥
   pub eleven : check ≡ 11 → room < mostWordsFor (options .discount)
   pub twelve : check ≡ 12 → check12 (options .discount) ≡ At place
   pub thirteen : check ≡ 13 → check13 (options .spacing) ≡ At place
@@ -71,7 +72,15 @@ module _ (options : Options) (list : List ℕ) (room : ℕ) where
           11 < check → check ≤ 14 → (check ≡ 12 → check12 (options .discount) ≡ At place) → (check ≡ 13 → check13 (options .spacing) ≡ At place)
           → (check ≡ 14 → Clear allChecks list × (check14 d ≡ At place)) → Refusal options list room check place
       beyond-11 l m a b c =
-          record { least = omega arith; most = m; eleven = λ h. absurd (omega arith); twelve = a; thirteen = b; fourteen = c }
+          record {
+            least = omega arith;
+            most = m;
+            not-7 = λ h. omega arith;
+            eleven = λ h. absurd (omega arith);
+            twelve = a;
+            thirteen = b;
+            fourteen = c;
+          }
 
       of-drawing : Clear (givenChecks options) list → (f : Found) → check14 d ≡ f → Refusal options list room check place
       of-drawing pass (At p) f =
@@ -88,12 +97,13 @@ module _ (options : Options) (list : List ℕ) (room : ℕ) where
           let c : n ≡ check = cc in
           let b = verdict-between list f in
           record {
-            least = omega (arith, b .0);
-            most = omega (arith, b .1);
-            eleven = λ h. absurd (omega (arith, b .1));
-            twelve = λ h. absurd (omega (arith, b .1));
-            thirteen = λ h. absurd (omega (arith, b .1));
-            fourteen = λ h. absurd (omega (arith, b .1));
+            least = omega (arith, b .least);
+            most = omega (arith, b .most);
+            not-7 = λ h. b .not-7 (c ∙ h);
+            eleven = λ h. absurd (omega (arith, b .most));
+            twelve = λ h. absurd (omega (arith, b .most));
+            thirteen = λ h. absurd (omega (arith, b .most));
+            fourteen = λ h. absurd (omega (arith, b .most));
           }
 
       of-spacing : check12 (options .discount) ≡ Nothing → (f : Found) → check13 (options .spacing) ≡ f → Refusal options list room check place
@@ -128,6 +138,7 @@ module _ (options : Options) (list : List ℕ) (room : ℕ) where
           record {
             least = omega arith;
             most = omega arith;
+            not-7 = λ h. omega arith;
             eleven = λ h. omega (arith, ltb-true room (length words) t, most);
             twelve = λ h. absurd (omega arith);
             thirteen = λ h. absurd (omega arith);

@@ -15,7 +15,7 @@ use Rattle.exports.specs.Editing.{noted, Tried, Laid}
 
 -- no refusal has the number 0
 above-zero : {check : ℕ} → WhenProposed check → 1 ≤ check
-above-zero (inl h) = h .0
+above-zero (inl h) = h .least
 above-zero (inr h) = omega arith
 
 committed-above-zero : {check : ℕ} → WhenCommitted check → 1 ≤ check

@@ -11,12 +11,12 @@ use Rattle.lists.proofs.Select.{getD-map}
 use Rattle.station.specs.Station.{Station, stationOf, noCable}
 use Rattle.checks.specs.Checks.{Clear}
 use Rattle.order.specs.Order.{order}
-use Rattle.order.specs.Orientation.{lowerPart, upperPart}
+use Rattle.order.specs.Orientation.{lowerPart, upperPart, graphOf}
 use Rattle.order.specs.StOrder.{Smallest}
 use Rattle.order.proofs.Bipolar.{Orderable}
 use Rattle.order.proofs.StOrder.{order-ordering, order-smallest}
 use Rattle.order.proofs.Orientation.{parts-joined}
-use Rattle.order.proofs.Passed.{list-orderable, list-once}
+use Rattle.order.proofs.Passed.{list-orderable}
 use Rattle.drawing.specs.Drawing.{Drawing, routeAt, Meets, crossings}
 use Rattle.drawing.specs.Spacing.{rowAt, spaced, check13, check14}
 use Rattle.drawing.specs.Sheet.{quotedWords}
@@ -25,8 +25,9 @@ use Rattle.drawing.proofs.Quoted.{quoted-length}
 use Rattle.prices.specs.declared.Discount.{Discount}
 use Rattle.drawing.specs.declared.spacing.Spacing.{Spacing}
 use Rattle.drawing.specs.Reading.{Endpoints, noEndpoints, partsByRow, lengthsIn}
-use Rattle.drawing.specs.Sizes.{Sizes, Exactly, Bends}
+use Rattle.drawing.specs.Sizes.{Sizes, Exactly, ManyBends, Bends}
 use Rattle.drawing.specs.Measured.{Measured}
+use Rattle.layout.specs.Columns.{bottomLine, topLine}
 use Rattle.drawing.proofs.Spaced.{Spreads, passed-13, increases, spaced-one}
 use Rattle.hookup.specs.declared.Options.{Options}
 use Rattle.hookup.specs.Checks.{callChecks}
@@ -34,7 +35,7 @@ use Rattle.hookup.specs.Drawing.{drawing}
 use Rattle.hookup.specs.Reading.{endsBy, drawingOf}
 use Rattle.hookup.specs.Demand.{Form, rowsBelow, rowsAbove, Demand3, rowOf, Ordered, Crossed}
 use Rattle.hookup.proofs.CallChecks.{checked-given, list-clear, spacing-clear, drawing-clear}
-use Rattle.hookup.proofs.Drawn.{endsOf, mostWordsFor, joins, routes-are, corner-total, all-words, grid-sizes, meets-spaced, crossings-there, reads, sheet-corners, sizes, bends, measured, quote, all-fit, quoted-most}
+use Rattle.hookup.proofs.Drawn.{endsOf, mostWordsFor, joins, routes-are, corner-total, all-words, grid-sizes, meets-spaced, crossings-there, reads, sheet-corners, sizes, many-bends, bends, measured, quote, all-fit, quoted-most}
 use Rattle.hookup.proofs.PartRows.{parts-by-row, rank-row, bottom-rows, top-rows, height-is}
 
 module _ (st : Station) (H : Orderable st) where
@@ -105,9 +106,10 @@ module _ (options : Options) (list : List ℕ) (pass : Clear (callChecks options
             subst (λ (d : Drawing). Sizes s (st .parts) (length (st .cables)) (drawing st) d sheet) (sym read-off)
             (sizes st orderable s spreads fit (options .discount));
         exactly = exact st orderable s spreads fit (options .discount);
-        bends =
-            subst (λ (d : Drawing). Bends (length (st .cables)) d) (sym read-off)
-            (bends st orderable s spreads (list-once list (list-clear options list (checked-given options list pass))));
+        many-bends =
+            subst (λ (d : Drawing). ManyBends (length (st .cables)) (bottomLine (graphOf st)) (topLine (graphOf st)) d) (sym read-off)
+            (many-bends st orderable s spreads);
+        bends = λ once. subst (λ (d : Drawing). Bends (length (st .cables)) d) (sym read-off) (bends st orderable s spreads once);
         lengths =
             subst (λ (d : Drawing). Measured s (st .parts) (length (st .cables)) (drawing st) d (lengthsIn (st .parts) (length (st .cables)) sheet)) (sym read-off)
             (measured st orderable s spreads fit (options .discount));

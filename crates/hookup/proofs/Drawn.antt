@@ -33,7 +33,7 @@ use Rattle.drawing.specs.Spacing.{spaced, onGrid, tooLarge, check14}
 use Rattle.drawing.specs.Sheet.{sheetWords, quotedWords}
 use Rattle.drawing.specs.Reading.{Endpoints, noEndpoints, lengthsIn, quoteIn}
 use Rattle.drawing.specs.Counts.{cornerCount, isCorner}
-use Rattle.drawing.specs.Sizes.{Sizes, Bends}
+use Rattle.drawing.specs.Sizes.{Sizes, ManyBends, Bends}
 use Rattle.drawing.specs.Measured.{Measured}
 use Rattle.drawing.proofs.LengthWords.{LengthsFit}
 use Rattle.drawing.proofs.ReadBack.{SpotFits, DrawingFits}
@@ -42,7 +42,8 @@ use Rattle.drawing.proofs.SpacedCrossings.{crossings-spaced}
 use Rattle.drawing.proofs.Fields.{head-decides}
 use Rattle.drawing.proofs.Quoted.{quoted-length, quoted-renumbered, drawing-read, lengths-read, quote-read, quoted-fits, quoted-corners}
 use Rattle.drawing.proofs.Renumbered.{Names, routes-renumbered, points-renumbered, lengths-renumbered, meets-renumbered, crossings-renumbered, length-renumbered, corner-count-renumbered}
-use Rattle.drawing.proofs.Sized.{Joins, joins-fit, named, joins-renumbered, joins-spaced, spaced-renumbered, bends-renumbered, bends-spaced, GridSizes, sizes-renumbered, fields-within, sizes-spaced}
+use Rattle.drawing.proofs.Sized.{Joins, joins-fit, named, joins-renumbered, joins-spaced, spaced-renumbered, many-bends-renumbered, many-bends-spaced, bends-renumbered, bends-spaced, GridSizes, sizes-renumbered, fields-within, sizes-spaced}
+use Rattle.layout.specs.Columns.{bottomLine, topLine}
 use Rattle.layout.specs.Points.{bottomRows, topRows}
 use Rattle.layout.specs.Layout.{layout}
 use Rattle.layout.proofs.Step.{ins, outs}
@@ -177,13 +178,25 @@ module _ (st : Station) where
         (sizes-renumbered (order st) (layout G) names (laid.meets G R) (st .parts) (length (st .cables)) (laid.parts-count G ∙ graph-parts st) (laid.routes-count G ∙ graph-size st)
         (subst₂ (λ (n m : ℕ). GridSizes n m (layout G)) (graph-parts st) (graph-size st) (laid.sizes G R two most)))
 
+    three : 3 ≤ graphOf st .parts
+    three = omega (arith, graph-parts st, H .wired .least)
+
+    grid-many-bends : ManyBends (length (st .cables)) (bottomLine (graphOf st)) (topLine (graphOf st)) (drawing st)
+    grid-many-bends =
+        let G : StGraph = graphOf st in
+        let b : ℕ = bottomLine G in
+        let t : ℕ = topLine G in
+        subst (λ (d : Drawing). ManyBends (length (st .cables)) b t d) (sym is-renumbered)
+        (many-bends-renumbered (order st) (layout G) (length (st .cables)) b t (laid.routes-count G ∙ graph-size st)
+        (subst (λ (m : ℕ). ManyBends m b t (layout G)) (graph-size st) (laid.many-bends G R two most three)))
+
     -- where the two lowest ranks, and the two highest, are joined once
     grid-bends : EndsOnce (graphOf st) → Bends (length (st .cables)) (drawing st)
     grid-bends once =
         let G : StGraph = graphOf st in
         subst (λ (d : Drawing). Bends (length (st .cables)) d) (sym is-renumbered)
         (bends-renumbered (order st) (layout G) (length (st .cables)) (laid.routes-count G ∙ graph-size st)
-        (subst (λ (m : ℕ). Bends m (layout G)) (graph-size st) (laid.bends G R two most (omega (arith, graph-parts st, H .wired .least)) once)))
+        (subst (λ (m : ℕ). Bends m (layout G)) (graph-size st) (laid.bends G R two most three once)))
 
     -- no line is longer
     length-most : (i : ℕ) → i < length (drawing st .routes) → lineLength (pointsAt (drawing st) i) ≤ mostLength (st .parts)
@@ -211,6 +224,9 @@ module _ (st : Station) where
 
       pub crossings-there : crossings (spaced s (drawing st)) ≡ crossings (drawing st)
       crossings-there = crossings-spaced s grows (drawing st) meets
+
+      pub many-bends : ManyBends (length (st .cables)) (bottomLine (graphOf st)) (topLine (graphOf st)) (spaced s (drawing st))
+      many-bends = many-bends-spaced s (drawing st) (length (st .cables)) (bottomLine (graphOf st)) (topLine (graphOf st)) routes-are grid-many-bends
 
       pub bends : EndsOnce (graphOf st) → Bends (length (st .cables)) (spaced s (drawing st))
       bends once = bends-spaced s (drawing st) (length (st .cables)) routes-are (grid-bends once)

@@ -1,5 +1,6 @@
--- The eleven refusals, the boundaries, and stations A to D of document 01, with the lengths of request 2026-01, the crossings of 2026-02,
--- the corners of 2026-04, the prices of 2026-05 and the spacing of 2026-06, as the definitions give them. Assumes nothing.
+-- The ten refusals, the boundaries, and stations A to D of document 01, with the lengths of request 2026-01, the crossings of 2026-02,
+-- the corners of 2026-04, the prices of 2026-05, the spacing of 2026-06 and the repeated cables of 2026-12, as the definitions give them.
+-- Assumes nothing.
 use Prim.Native.Nat.{ℕ}
 use mathlib.Core.Path.{_≡_, refl}
 use mathlib.Core.Bool.{true, false}
@@ -69,6 +70,20 @@ printed =
     ∷ 0xa0000006
     ∷ []
 
+-- 2026-12: the triangle with a second cable 0-1; three parts with 0-1 twice, 1-2 twice and 0-2
+abbrev pub pairTriangle : List ℕ
+pairTriangle = 0x10030004 ∷ 0x20000002 ∷ 0x30000001 ∷ 0x30001002 ∷ 0x30000002 ∷ 0x30000001 ∷ []
+
+abbrev pub pairs : List ℕ
+pairs = 0x10030005 ∷ 0x20000002 ∷ 0x30000001 ∷ 0x30000001 ∷ 0x30001002 ∷ 0x30001002 ∷ 0x30000002 ∷ []
+
+-- s has four cables, two of them to rank 1; t has four, two of them from rank n - 2, at which two come in
+abbrev pub pairBelow : List ℕ
+pairBelow = 0x10040006 ∷ 0x20000003 ∷ 0x30000002 ∷ 0x30001000 ∷ 0x30000001 ∷ 0x30000003 ∷ 0x30001002 ∷ 0x30002003 ∷ []
+
+abbrev pub pairAbove : List ℕ
+pairAbove = 0x10040007 ∷ 0x20000003 ∷ 0x30000001 ∷ 0x30000002 ∷ 0x30000003 ∷ 0x30001002 ∷ 0x30001003 ∷ 0x30002003 ∷ 0x30003002 ∷ []
+
 abbrev drawingOfList : List ℕ → Drawing
 drawingOfList list = drawing (stationOf list)
 
@@ -83,7 +98,8 @@ pub record Table : Type 0 where
   refusal-4 : outcome plain (0x10020000 ∷ 0x20000001 ∷ []) room ≡ sentBack 4 2
   refusal-5 : outcome plain (0x10030000 ∷ 0x20000003 ∷ []) room ≡ sentBack 5 1
   refusal-6 : outcome plain (0x10030000 ∷ 0x20001001 ∷ []) room ≡ sentBack 6 1
-  refusal-7 : outcome plain (0x10030002 ∷ 0x20000002 ∷ 0x30000001 ∷ 0x30001000 ∷ []) room ≡ sentBack 7 3
+  -- 2026-12: check 7's 'example now gets 9 at 2'
+  repeated : outcome plain (0x10030002 ∷ 0x20000002 ∷ 0x30000001 ∷ 0x30001000 ∷ []) room ≡ sentBack 9 2
   refusal-8 : outcome plain (0x10060005 ∷ 0x20000005 ∷ 0x30000001 ∷ 0x30000002 ∷ 0x30000003 ∷ 0x30000004 ∷ 0x30000005 ∷ []) room ≡ sentBack 8 0
   refusal-9 : outcome plain (0x10030001 ∷ 0x20000002 ∷ 0x30000001 ∷ []) room ≡ sentBack 9 2
   refusal-10 : outcome plain (0x10030002 ∷ 0x20000002 ∷ 0x30000001 ∷ 0x30001002 ∷ []) room ≡ sentBack 10 1
@@ -145,6 +161,35 @@ pub record Table : Type 0 where
       (0x40006006 ∷ 0x50002001 ∷ 0x50005002 ∷ 0x50001003 ∷ 0x50002004 ∷ 0x50003005 ∷ 0x60000002 ∷ 0x70002000 ∷ 0x70005000 ∷ 0x60001001 ∷ 0x70001001 ∷ 0x60002000 ∷ 0x60003001 ∷ 0x70003001 ∷ 0x60004002 ∷ 0x70004002 ∷ 0x70004003 ∷ 0x60005001 ∷ 0x70005004 ∷ 0x60006002 ∷ 0x70006002 ∷ 0x70006005 ∷ 0x60007002 ∷ 0x70000003 ∷ 0x70000004 ∷ 0x60008001 ∷ 0x70001005 ∷ 0x60009002 ∷ 0x70002006 ∷ 0x70003006 ∷ 0x80000006 ∷ 0x80001003 ∷ 0x80002003 ∷ 0x80003005 ∷ 0x80004005 ∷ 0x80005005 ∷ 0x80006007 ∷ 0x80007004 ∷ 0x80008004 ∷ 0x80009004 ∷ 0xa000002e ∷ [])
       5
   d-short : outcome plain stationD 40 ≡ sentBack 11 41
+  -- 2026-12: 'Among equal ranks of far ends the lower line comes first': line 0 goes left, line 3 in the part's own column
+  pair-triangle :
+      outcome plain pairTriangle 17
+      ≡ written
+      (0x40002002 ∷ 0x50001000 ∷ 0x50000001 ∷ 0x50000002 ∷ 0x60000001 ∷ 0x70000000 ∷ 0x60001000 ∷ 0x60002002 ∷ 0x70002000 ∷ 0x70002002 ∷ 0x60003001 ∷ 0x70001001 ∷ 0x80000002 ∷ 0x80001001 ∷ 0x80002005 ∷ 0x80003002 ∷ 0xa000000a ∷ [])
+      0
+  pair-short : outcome plain pairTriangle 16 ≡ sentBack 11 17
+  -- lines 0 and 2 left of lines 1 and 3
+  pairs-drawn :
+      outcome plain pairs 21
+      ≡ written
+      (0x40003002 ∷ 0x50002000 ∷ 0x50001001 ∷ 0x50001002 ∷ 0x60000001 ∷ 0x70001000 ∷ 0x60001001 ∷ 0x70002001 ∷ 0x60002002 ∷ 0x70000001 ∷ 0x70000002 ∷ 0x60003000 ∷ 0x60004002 ∷ 0x70003000 ∷ 0x70003002 ∷ 0x80000002 ∷ 0x80001002 ∷ 0x80002003 ∷ 0x80003001 ∷ 0x80004005 ∷ 0xa000000d ∷ [])
+      0
+  -- without 0-2 part 1 is a cut part
+  pairs-cut : outcome plain (0x10030004 ∷ 0x20000002 ∷ 0x30000001 ∷ 0x30000001 ∷ 0x30001002 ∷ 0x30001002 ∷ []) room ≡ sentBack 10 1
+  -- 'where several could leave s downward or climb over t, the lowest line does': line 1 of lines 1 and 2, with three corners
+  below-drawn :
+      outcome plain pairBelow 25
+      ≡ written
+      (0x40003004 ∷ 0x50001001 ∷ 0x50000002 ∷ 0x50000003 ∷ 0x50000004 ∷ 0x60000001 ∷ 0x70001003 ∷ 0x60001003 ∷ 0x70001000 ∷ 0x70003000 ∷ 0x70003002 ∷ 0x60002001 ∷ 0x70000001 ∷ 0x60003002 ∷ 0x70002001 ∷ 0x70002004 ∷ 0x60004000 ∷ 0x60005000 ∷ 0x80000003 ∷ 0x80001008 ∷ 0x80002002 ∷ 0x80003006 ∷ 0x80004001 ∷ 0x80005001 ∷ 0xa0000015 ∷ [])
+      2
+  below-bends : map (λ r. length (r .corners)) (drawingOfList pairBelow .routes) ≡ 1 ∷ 3 ∷ 1 ∷ 2 ∷ 0 ∷ 0 ∷ []
+  -- line 5 of lines 5 and 6, with three corners
+  above-drawn :
+      outcome plain pairAbove 29
+      ≡ written
+      (0x40004004 ∷ 0x50003000 ∷ 0x50001001 ∷ 0x50001002 ∷ 0x50002003 ∷ 0x60000001 ∷ 0x70001000 ∷ 0x60001001 ∷ 0x70003002 ∷ 0x60002002 ∷ 0x70004000 ∷ 0x70004003 ∷ 0x60003000 ∷ 0x60004001 ∷ 0x70002001 ∷ 0x60005003 ∷ 0x70000002 ∷ 0x70000004 ∷ 0x70002004 ∷ 0x60006001 ∷ 0x70001003 ∷ 0x80000003 ∷ 0x80001004 ∷ 0x80002006 ∷ 0x80003001 ∷ 0x80004003 ∷ 0x80005006 ∷ 0x80006002 ∷ 0xa0000019 ∷ [])
+      1
+  above-bends : map (λ r. length (r .corners)) (drawingOfList pairAbove .routes) ≡ 1 ∷ 1 ∷ 2 ∷ 0 ∷ 1 ∷ 3 ∷ 1 ∷ []
   -- 2026-05: the triangle's runs, and the ready lengths that they take; the longest ready length; 'm + 1 words' more, 'and check 11
   -- measures it'
   a-lengths : cableLengths (drawingOfList triangle) ≡ 1 ∷ 1 ∷ 4 ∷ []
@@ -200,7 +245,7 @@ table = record {
   refusal-4 = refl;
   refusal-5 = refl;
   refusal-6 = refl;
-  refusal-7 = refl;
+  repeated = refl;
   refusal-8 = refl;
   refusal-9 = refl;
   refusal-10 = refl;
@@ -235,6 +280,14 @@ table = record {
   c-short = refl;
   d-drawn = refl;
   d-short = refl;
+  pair-triangle = refl;
+  pair-short = refl;
+  pairs-drawn = refl;
+  pairs-cut = refl;
+  below-drawn = refl;
+  below-bends = refl;
+  above-drawn = refl;
+  above-bends = refl;
   a-lengths = refl;
   a-taken = refl;
   price-2048 = refl;

@@ -1,5 +1,5 @@
--- Demands 2 and 3, and requests 2026-01, 2026-02 and 2026-04 to 2026-06, as claims about the words of a list and the words of its sheet.
--- Assumes nothing.
+-- Demands 2 and 3, and requests 2026-01, 2026-02, 2026-04 to 2026-06 and 2026-12, as claims about the words of a list and the words of its
+-- sheet. Assumes nothing.
 use Prim.Native.Nat.{ℕ, _+_, _<_}
 use mathlib.Core.Path.{_≡_}
 use mathlib.Core.Logic.{_⊎_}
@@ -11,12 +11,15 @@ use Rattle.words.specs.Words.{secondOf}
 use Rattle.prices.specs.Quoted.{Quoted}
 use Rattle.station.specs.Station.{Station, stationOf, degree, noCable}
 use Rattle.order.specs.StOrder.{Smallest}
+use Rattle.order.specs.Graph.{EndsOnce}
+use Rattle.order.specs.Orientation.{graphOf}
 use Rattle.drawing.specs.Drawing.{Drawing, routeAt, Meets, crossings}
 use Rattle.drawing.specs.Spacing.{rowAt, spaced}
 use Rattle.drawing.specs.Sheet.{quotedWords}
 use Rattle.drawing.specs.Reading.{partsByRow, lengthsIn, quoteIn}
-use Rattle.drawing.specs.Sizes.{Sizes, Exactly, Bends}
+use Rattle.drawing.specs.Sizes.{Sizes, Exactly, ManyBends, Bends}
 use Rattle.drawing.specs.Measured.{Measured}
+use Rattle.layout.specs.Columns.{bottomLine, topLine}
 use Rattle.hookup.specs.declared.Options.{Options}
 use Rattle.hookup.specs.Reading.{drawingOf}
 
@@ -55,8 +58,13 @@ pub record Demand3 (options : Options) (list sheet : List ℕ) : Type 0 where
   pub exactly :
       Exactly (options .discount) (stationOf list .parts) (length (stationOf list .cables))
       (rowsBelow (stationOf list)) (rowsAbove (stationOf list)) grid sheet
-  -- 2026-04: 'no cable has more than two corners'
-  pub bends : Bends (length (stationOf list .cables)) (drawingOf list sheet)
+  -- 'at most two cables have more than two': the bottom and the top connection
+  pub many-bends :
+      ManyBends (length (stationOf list .cables)) (bottomLine (graphOf (stationOf list))) (topLine (graphOf (stationOf list)))
+      (drawingOf list sheet)
+  -- 2026-04: 'no cable has more than two corners'; 2026-12: it is 'shown where the two lowest ranks, and the two highest, are not joined
+  -- more than once'
+  pub bends : EndsOnce (graphOf (stationOf list)) → Bends (length (stationOf list .cables)) (drawingOf list sheet)
   -- 2026-01: the words 'after the last cable's corners' are the lengths of the lines that the sheet shows, in grid steps, and their total
   pub lengths :
       Measured (options .spacing) (stationOf list .parts) (length (stationOf list .cables)) grid (drawingOf list sheet)

@@ -1,5 +1,5 @@
--- Document 01 as a whole, with requests 2026-01, 2026-02 and 2026-04 to 2026-06: what a caller gives, the checks, the drawing of a station,
--- the answer, and the demands. Assumes nothing.
+-- Document 01 as a whole, with requests 2026-01, 2026-02, 2026-04 to 2026-06 and 2026-12: what a caller gives, the checks, the drawing of a
+-- station, the answer, and the demands. Assumes nothing.
 pub mod Options
 pub mod Drawing
 pub mod Checks
@@ -7,3 +7,5 @@ pub mod Outcome
 pub mod Reading
 pub mod Demand
 pub mod Answer
+-- What only laws cite
+pub mod Repeats

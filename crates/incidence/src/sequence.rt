@@ -23,7 +23,8 @@ fn joins(lower: Rank, upper: Rank, low: Rank, high: Rank) -> bool
     lower.number() == low.number() && upper.number() == high.number()
 }
 
-// The lowest line among those from one rank to another, or the count of lines where there is none.
+// The lowest line among those from one rank to another, or the count of lines where there is none. 2026-12: 'where several could leave s
+// downward or climb over t, the lowest line does'.
 fn line_between(graph: Graph, low: Rank, high: Rank) -> usize
     requires { ⌜ GraphFits graph ⌝ }
     ensures { λ r. ⌜ r ≡ lineBetween (graphIn graph) (low .0) (high .0) ⌝ }

@@ -32,9 +32,9 @@ use Rattle.drawing.proofs.LengthWords.{LengthsFit}
 use Rattle.drawing.proofs.Inside.{Inside}
 use Rattle.drawing.proofs.Spaced.{Increases, grid-increases, parts-spaced, routes-spaced, spot-spaced, first-spaced, last-spaced, points-inside, unspaced}
 use Rattle.drawing.proofs.WordCounts.{words-length}
-use Rattle.drawing.specs.Sizes.{Bends}
-use Rattle.drawing.proofs.Sized.{Joins, GridSizes}
-use Rattle.layout.specs.Columns.{columns}
+use Rattle.drawing.specs.Sizes.{ManyBends, Bends}
+use Rattle.drawing.proofs.Sized.{Joins, GridSizes, many-bends-of}
+use Rattle.layout.specs.Columns.{bottomLine, topLine, columns}
 use Rattle.layout.specs.Points.{turns, pointsOf, inner, cornersOf, bottomRows, topRows, partSpot, course, rankSpot, courseOf}
 use Rattle.layout.specs.Layout.{drawnIn, layout}
 use Rattle.layout.specs.Over.{coursesCross}
@@ -46,7 +46,7 @@ use Rattle.layout.proofs.Meet.{meetings}
 use Rattle.layout.proofs.Maps.{meetings-map}
 use Rattle.layout.proofs.SpacedCourses.{points-of-spaced}
 use Rattle.layout.proofs.Cross.{linesCross-courses}
-use Rattle.layout.proofs.Sizes.{part-column-below, rising, corners-four, corners-two, spots-within, points-within, columns-count, corners-sum, width-spot, height-spot}
+use Rattle.layout.proofs.Sizes.{part-column-below, rising, corners-four, corners-which, corners-three, corners-two, spots-within, points-within, columns-count, corners-sum, width-spot, height-spot}
 use Rattle.layout.proofs.LineLengths.{line-most}
 
 -- on plain numbers: the count of columns is one more than the width, the count of rows one more than the height
@@ -358,6 +358,13 @@ module _ (G : StGraph) (R : Ranked G) where
         height = omega (arith, height-is, bottomRows-le G R, topRows-le G R);
         corners = omega (arith, corner-total, bottomRows-le G R, topRows-le G R);
       }
+
+      -- only the bottom and the top connection have more than two corners
+      pub many-bends : 3 ≤ G .parts → ManyBends (size G) (bottomLine G) (topLine G) (layout G)
+      many-bends three =
+          many-bends-of (size G) (bottomLine G) (topLine G) (layout G) (routes-count G)
+          (λ i h l. corners-which G R i h (omega (arith, ap length (corners-at i h))))
+          (λ i h. omega (arith, ap length (corners-at i h), corners-three G R three i h))
 
       -- where the two lowest ranks, and the two highest, are joined once
       pub bends : 3 ≤ G .parts → EndsOnce G → Bends (size G) (layout G)

@@ -1,7 +1,8 @@
 -- The lines at a rank, the lowest line from one rank to another, and the lines at the bottom and at the top connection: the laws of the
 -- definitions that name these, from which all else follows. Assumes nothing.
-use Prim.Native.Nat.{ℕ, _-_, _<_}
+use Prim.Native.Nat.{ℕ, _-_, _<_, _≤_}
 use native.Mathlib.Omega.{arith}
+use native.Mathlib.Decide.{decLt}
 use mathlib.Core.Path.{_≡_, refl, sym, ap, _∙_}
 use mathlib.Core.Logic.{_⊎_, inl, inr, ⊎-elim}
 use mathlib.Core.Bool.{Bool, true, false, cond, _&&_, false≢true}
@@ -73,6 +74,26 @@ module _ (G : StGraph) where
 
   between-some : (j k i : ℕ) → i < size G → lower G i ≡ j → upper G i ≡ k → lineBetween G j k < size G
   between-some j k i h e f = ⊎-elim (λ q. q .0) (λ q. absurd (q .1 i h e f)) (between j k)
+
+  -- no lower line goes from the one to the other
+  pub between-lowest : (j k i : ℕ) → i < size G → lower G i ≡ j → upper G i ≡ k → lineBetween G j k ≤ i
+  unfolding lineBetween
+  between-lowest j k i h a b = go (seek-cases test 0 (size G))
+    where
+      test : ℕ → Bool
+      test l = eqb (lower G l) j && eqb (upper G l) k
+
+      passes : test i ≡ true
+      passes = and-i _ _ (eq-eqb (lower G i) j a) (eq-eqb (upper G i) k b)
+
+      below : (x : ℕ) → placeOr (size G) (seek test 0 (size G)) ≡ x → First test 0 (size G) x → Dec (i < x) → placeOr (size G) (seek test 0 (size G)) ≤ i
+      below x e f (yes l) = absurd (false≢true (sym (f .none i (omega arith) l) ∙ passes))
+      below x e f (no l) = omega arith
+
+      go : ((x : ℕ) × (seek test 0 (size G) ≡ At x) × First test 0 (size G) x) ⊎ ((seek test 0 (size G) ≡ Nothing) × None test 0 (size G))
+          → placeOr (size G) (seek test 0 (size G)) ≤ i
+      go (inl f) = below (f .0) (ap (placeOr (size G)) (f .1)) (f .2) (decLt i (f .0))
+      go (inr f) = absurd (false≢true (sym (f .1 i (omega arith) (omega arith)) ∙ passes))
 
   -- The bottom and the top connection
 

@@ -6,6 +6,7 @@ pub mod EndLines
 pub mod Step
 pub mod Moved
 pub mod Invariant
+pub mod ByLine
 pub mod Placed
 pub mod Width
 pub mod Drawings

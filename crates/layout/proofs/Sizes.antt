@@ -114,6 +114,46 @@ module _ (G : StGraph) (H : Ranked G) where
         oneIf-le (eqb i (topLine G)),
       )
 
+  -- 'at most two cables have more than two': only the bottom and the top connection can
+  pub corners-which : (i : ℕ) → i < size G → 2 < length (cornersOf (courseOf G i)) → (i ≡ bottomLine G) ⊎ (i ≡ topLine G)
+  corners-which i h l = go (ℕ-discrete i (bottomLine G)) (ℕ-discrete i (topLine G))
+    where
+      go : Dec (i ≡ bottomLine G) → Dec (i ≡ topLine G) → (i ≡ bottomLine G) ⊎ (i ≡ topLine G)
+      go (yes e) f = inl e
+      go (no e) (yes f) = inr f
+      go (no e) (no f) =
+          absurd
+          (omega (
+            arith,
+            corners-one i h,
+            differs-le (getD (columns G (G .parts) .cables) i 0) (getD (columns G (G .parts) .parts) (lower G i) 0),
+            differs-le (getD (columns G (G .parts) .cables) i 0) (getD (columns G (G .parts) .parts) (upper G i) 0),
+            ap oneIf (ne-eqb i (bottomLine G) e),
+            ap oneIf (ne-eqb i (topLine G) f),
+          ))
+
+  -- they are two: where there are three parts, no cable goes both from the lowest rank and to the highest of two neighbours
+  connections-differ : 3 ≤ G .parts → (i : ℕ) → i < size G → oneIf (eqb i (bottomLine G)) + oneIf (eqb i (topLine G)) ≤ 1
+  connections-differ three i h = go (ℕ-discrete i (bottomLine G)) (ℕ-discrete i (topLine G))
+    where
+      go : Dec (i ≡ bottomLine G) → Dec (i ≡ topLine G) → oneIf (eqb i (bottomLine G)) + oneIf (eqb i (topLine G)) ≤ 1
+      go (yes e) (yes f) =
+          let b = bottom-ends G (omega arith) in
+          let t = top-ends G (omega arith) in
+          absurd (omega (arith, ap (lower G) e ∙ b .1, ap (lower G) f ∙ t .1))
+      go (yes e) (no f) = omega (arith, oneIf-le (eqb i (bottomLine G)), ap oneIf (ne-eqb i (topLine G) f))
+      go (no e) f = omega (arith, oneIf-le (eqb i (topLine G)), ap oneIf (ne-eqb i (bottomLine G) e))
+
+  pub corners-three : 3 ≤ G .parts → (i : ℕ) → i < size G → length (cornersOf (courseOf G i)) ≤ 3
+  corners-three three i h =
+      omega (
+        arith,
+        corners-one i h,
+        differs-le (getD (columns G (G .parts) .cables) i 0) (getD (columns G (G .parts) .parts) (lower G i) 0),
+        differs-le (getD (columns G (G .parts) .cables) i 0) (getD (columns G (G .parts) .parts) (upper G i) 0),
+        connections-differ three i h,
+      )
+
   -- 'no cable has more than two corners'
   module _ (three : 3 ≤ G .parts) (O : EndsOnce G) (i : ℕ) (h : i < size G) where
     abbrev x : ℕ

@@ -1,7 +1,7 @@
 -- Stations B, C and D of document 01 at this stage, in ranks: where the ranks stand and where the cables turn. B's values are document
 -- 01's, where the ranks of D stand is request 2026-04's. D has all four drawings of figure 3 and the last of figure 2; a chain has those
--- with one cable at an end. And D, which has four cables at both ends, is ranked, so that what is shown of ranked stations holds of it.
--- Assumes nothing.
+-- with one cable at an end; two graphs have repeated cables, at the bottom and at the top connection (2026-12). And D, which has four
+-- cables at both ends, is ranked, so that what is shown of ranked stations holds of it. Assumes nothing.
 use Prim.Native.Nat.{ℕ, zero, suc, _+_, _<_, _≤_}
 use native.Mathlib.Omega.{arith}
 use native.Mathlib.Decide.{decLt}
@@ -33,6 +33,14 @@ c = record { parts = 4; lowers = 0 ∷ 0 ∷ 1 ∷ 2 ∷ 0 ∷ []; uppers = 2 �
 abbrev pub d : StGraph
 d = record { parts = 5; lowers = 0 ∷ 0 ∷ 0 ∷ 0 ∷ 1 ∷ 1 ∷ 1 ∷ 2 ∷ 2 ∷ 3 ∷ []; uppers = 1 ∷ 2 ∷ 3 ∷ 4 ∷ 2 ∷ 3 ∷ 4 ∷ 3 ∷ 4 ∷ 4 ∷ [] }
 
+-- lines 1 and 2 join ranks 0 and 1
+abbrev below : StGraph
+below = record { parts = 4; lowers = 0 ∷ 0 ∷ 0 ∷ 0 ∷ 1 ∷ 2 ∷ []; uppers = 2 ∷ 1 ∷ 1 ∷ 3 ∷ 2 ∷ 3 ∷ [] }
+
+-- lines 5 and 6 join ranks 2 and 3
+abbrev above : StGraph
+above = record { parts = 4; lowers = 0 ∷ 0 ∷ 0 ∷ 1 ∷ 1 ∷ 2 ∷ 2 ∷ []; uppers = 1 ∷ 2 ∷ 3 ∷ 2 ∷ 3 ∷ 3 ∷ 3 ∷ [] }
+
 abbrev chain : StGraph
 chain = record { parts = 3; lowers = 0 ∷ 1 ∷ []; uppers = 1 ∷ 2 ∷ [] }
 
@@ -55,6 +63,11 @@ record Worked : Type 0 where
   d-line-1 : corners d 1 ≡ spotAt 1 1 ∷ []
   d-line-2 : corners d 2 ≡ []
   d-line-3 : corners d 3 ≡ spotAt 3 1 ∷ []
+  -- 2026-12: 'the lowest line' of two 'leaves s downward', or climbs over t; the other goes as any cable does
+  below-line-1 : corners below 1 ≡ spotAt 1 0 ∷ spotAt 3 0 ∷ spotAt 3 2 ∷ []
+  below-line-2 : corners below 2 ≡ spotAt 0 1 ∷ []
+  above-line-5 : corners above 5 ≡ spotAt 0 2 ∷ spotAt 0 4 ∷ spotAt 2 4 ∷ []
+  above-line-6 : corners above 6 ≡ spotAt 1 3 ∷ []
 
 worked : Worked
 unfolding layout-computing
@@ -74,6 +87,10 @@ worked = record {
   d-line-1 = refl;
   d-line-2 = refl;
   d-line-3 = refl;
+  below-line-1 = refl;
+  below-line-2 = refl;
+  above-line-5 = refl;
+  above-line-6 = refl;
 }
 
 -- what holds of each of D's ten lines

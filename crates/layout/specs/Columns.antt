@@ -1,5 +1,5 @@
--- Document 01, 'Columns and rows', with request 2026-04: the columns of parts and cables. A column is its place in the list of columns,
--- from the left; a column that is put in moves those right of it. Assumes nothing.
+-- Document 01, 'Columns and rows', with requests 2026-04 and 2026-12: the columns of parts and cables. A column is its place in the list of
+-- columns, from the left; a column that is put in moves those right of it. Assumes nothing.
 use Prim.Native.Nat.{ℕ, zero, suc, _+_, _-_}
 use mathlib.Core.Bool.{Bool, cond, _&&_}
 use mathlib.Core.List.{List, [], _∷_, _++_, map}
@@ -30,7 +30,8 @@ module _ (G : StGraph) where
   abbrev pub analyserHasFour : Bool
   analyserHasFour = eqb (length (linesAt (size G) (upper G) (G .parts - 1))) 4
 
-  -- the lowest line among those from rank j to rank k, or the count of lines where there is none
+  -- the lowest line among those from rank j to rank k, or the count of lines where there is none; 2026-12: 'where several could leave s
+  -- downward or climb over t, the lowest line does'
   unfoldable pub lineBetween : ℕ → ℕ → ℕ
   lineBetween j k = placeOr (size G) (seek (λ i. eqb (lower G i) j && eqb (upper G i) k) 0 (size G))
 
@@ -44,7 +45,8 @@ module _ (G : StGraph) where
   unfoldable pub topLine : ℕ
   topLine = cond analyserHasFour (lineBetween (G .parts - 2) (G .parts - 1)) (size G)
 
-  -- the cables that go out of rank k, 'left to right by rising rank of the far end', the lower line first among equals
+  -- the cables that go out of rank k, 'left to right by rising rank of the far end'; 2026-12: 'Among equal ranks of far ends the lower line
+  -- comes first', since the lines are sorted as they rise, and the sort keeps the sequence of equals
   unfoldable pub byRank : ℕ → List ℕ
   byRank k = sortBy (upper G) (linesAt (size G) (lower G) k)
 

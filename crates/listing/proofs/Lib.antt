@@ -1,3 +1,2 @@
 -- Laws that the code of checks 1 to 8 rests on. Assumes nothing.
 pub mod Counting
-pub mod Repeats

@@ -5,7 +5,6 @@ use lists::Found;
 mod degrees;
 pub mod fields;
 mod form;
-mod pairs;
 mod parts;
 
 ghost use mathlib.Core.Path.{_≡_};
@@ -23,9 +22,6 @@ fn check_parts(list: &[u32]) -> Verdict
     }
     if let Found::At(place) = parts::loop_word(list) {
         return Verdict::Refused { check: 6, place };
-    }
-    if let Found::At(place) = pairs::repeated_cable(list) {
-        return Verdict::Refused { check: 7, place };
     }
     if let Found::At(place) = degrees::crowded_part(list) {
         return Verdict::Refused { check: 8, place };

@@ -5,6 +5,7 @@ pub mod Increasing
 pub mod Select
 pub mod Sort
 pub mod Rising
+pub mod Stable
 pub mod Tests
 pub mod Sums
 pub mod Sets

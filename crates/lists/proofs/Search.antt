@@ -1,8 +1,8 @@
 -- Laws of seek. In a loop that searches from i up to n the invariant is `place ≡ seek p i (n - i)`: seek-at, seek-next and seek-end are
 -- what a hit, a turn and the loop's end need. Assumes nothing.
-use Prim.Native.Nat.{ℕ, zero, suc, _+_, _-_, _≤_, _<_}
+use Prim.Native.Nat.{ℕ, suc, _+_, _-_, _≤_, _<_}
 use mathlib.Core.Path.{_≡_, refl, _∙_}
-use mathlib.Core.Bool.{Bool, true, false, cond, _||_, true≢false}
+use mathlib.Core.Bool.{Bool, true, false, cond, true≢false}
 use native.Mathlib.Omega.{arith}
 use Rattle.lists.specs.declared.Found.{Found}
 use Rattle.lists.specs.declared.Found.the-variants.{At, Nothing}
@@ -27,19 +27,3 @@ module _ (p : ℕ → Bool) where
 pub not-found : (f : Found) → isFound f ≡ false → f ≡ Nothing
 not-found (At i) e = absurd (true≢false e)
 not-found Nothing e = refl
-
--- one number more at the end of the range
-later-found : (b r : Bool) (i : ℕ) (x y : Found) → isFound x ≡ isFound y || r → isFound (cond b (At i) x) ≡ isFound (cond b (At i) y) || r
-later-found true r i x y e = refl
-later-found false r i x y e = e
-
-pub found-more : (p : ℕ → Bool) (i k : ℕ) → isFound (seek p i (suc k)) ≡ isFound (seek p i k) || p (i + k)
-unfolding seek
-found-more p i zero = let e : i + 0 ≡ i = omega arith in rw e (first (p i))
-  where
-    first : (b : Bool) → isFound (cond b (At i) Nothing) ≡ b
-    first true = refl
-    first false = refl
-found-more p i (suc k) =
-    let e : i + suc k ≡ i + 1 + k = omega arith in
-    later-found (p i) (p (i + suc k)) i (seek p (i + 1) (suc k)) (seek p (i + 1) k) (found-more p (i + 1) k ∙ rw e)

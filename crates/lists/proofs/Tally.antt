@@ -1,12 +1,18 @@
--- Counts by place: a count over a list is a count over its places, and two tests that never pass together count at most as one that both
--- imply. Assumes nothing.
+-- Counts by place: a count over a list is a count over its places, two tests that never pass together count at most as one that both imply,
+-- and a test that only two numbers can pass counts at most two. Assumes nothing.
 use Prim.Native.Nat.{ℕ, zero, suc, _+_, _<_, _≤_}
 use native.Mathlib.Omega.{arith}
+use native.Mathlib.Decide.{decLt}
 use mathlib.Core.Path.{_≡_, refl, sym, ap, _∙_}
-use mathlib.Core.Bool.{Bool}
+use mathlib.Core.Logic.{_⊎_, inl, inr}
+use mathlib.Core.Bool.{Bool, true, false}
 use mathlib.Core.List.{List, [], _∷_}
 use lib.ListN.{length, getD}
+use lib.Dec.{ltb}
+use borrow.Author.Tests.{lt-ltb, le-ltb}
 use Rattle.lists.specs.Select.{upFrom, range, oneIf, count}
+use Rattle.lists.proofs.Tests.{oneIf-le}
+use Rattle.lists.proofs.Sums.{count-range, count-range-zero}
 
 count-upFrom-ext : (p q : ℕ → Bool) (a b k : ℕ) → ((j : ℕ) → j < k → p (a + j) ≡ q (b + j)) → count p (upFrom a k) ≡ count q (upFrom b k)
 unfolding count upFrom
@@ -49,3 +55,31 @@ pub count-two : (p q r : ℕ → Bool) (m : ℕ) → ((i : ℕ) → i < m → on
     → count p (range m) + count q (range m) ≤ count r (range m)
 unfolding range
 count-two p q r m h = count-two-from p q r 0 m (λ i l. h i (omega arith))
+
+-- 1 once x is among the numbers below m
+among-more : (x m : ℕ) → oneIf (ltb x m) ≤ oneIf (ltb x (suc m))
+among-more x m = go (decLt x m)
+  where
+    go : Dec (x < m) → oneIf (ltb x m) ≤ oneIf (ltb x (suc m))
+    go (yes l) = rw (lt-ltb x m l, lt-ltb x (suc m) (omega arith)) (omega arith)
+    go (no l) = rw (le-ltb x m (omega arith)) (omega arith)
+
+among-last : (x m : ℕ) → m ≡ x → oneIf (ltb x m) + 1 ≡ oneIf (ltb x (suc m))
+among-last x m e = rw (le-ltb x m (omega arith), lt-ltb x (suc m) (omega arith))
+
+count-among :
+    (q : ℕ → Bool) (m a b : ℕ) → ((i : ℕ) → i < m → q i ≡ true → (i ≡ a) ⊎ (i ≡ b)) → count q (range m) ≤ oneIf (ltb a m) + oneIf (ltb b m)
+count-among q zero a b h = omega (arith, count-range-zero q)
+count-among q (suc m) a b h = go (q m) refl (count-among q m a b (λ i l. h i (omega arith)))
+  where
+    here : (m ≡ a) ⊎ (m ≡ b) → oneIf (ltb a m) + oneIf (ltb b m) + 1 ≤ oneIf (ltb a (suc m)) + oneIf (ltb b (suc m))
+    here (inl e) = omega (arith, among-last a m e, among-more b m)
+    here (inr e) = omega (arith, among-last b m e, among-more a m)
+
+    go : (t : Bool) → q m ≡ t → count q (range m) ≤ oneIf (ltb a m) + oneIf (ltb b m) → count q (range (suc m)) ≤ oneIf (ltb a (suc m)) + oneIf (ltb b (suc m))
+    go true e c = omega (arith, count-range q m, ap oneIf e, here (h m (omega arith) e))
+    go false e c = omega (arith, count-range q m, ap oneIf e, among-more a m, among-more b m)
+
+-- only the numbers a and b can pass
+pub count-either : (q : ℕ → Bool) (m a b : ℕ) → ((i : ℕ) → i < m → q i ≡ true → (i ≡ a) ⊎ (i ≡ b)) → count q (range m) ≤ 2
+count-either q m a b h = omega (arith, count-among q m a b h, oneIf-le (ltb a m), oneIf-le (ltb b m))

@@ -9,7 +9,7 @@ use lib.ListN.{length, getD}
 use lib.Dec.{leb}
 use borrow.Author.Tests.{leb-true, leb-false}
 use Rattle.station.specs.Station.{Cable, Station, noCable}
-use Rattle.station.proofs.Passed.{SamePair, Simple}
+use Rattle.station.specs.Repeats.{SamePair, Simple}
 use Rattle.order.specs.Order.{order, rankIn}
 use Rattle.order.specs.Graph.{lower, upper, Once}
 use Rattle.order.specs.Orientation.{lowerPart, upperPart, graphOf}

@@ -9,8 +9,10 @@ use Rattle.station.specs.Station.{stationOf}
 use Rattle.checks.specs.Checks.{Clear}
 use Rattle.station.specs.Checks.{listChecks}
 use Rattle.station.specs.Code.{Wired}
+use Rattle.station.specs.Repeats.{firstRepeat}
 use Rattle.checks.proofs.FirstRefusal.{clear-each, clear-prefix, clear-rest}
-use Rattle.station.proofs.Passed.{wired, simple, wired-words, cables-most}
+use Rattle.station.proofs.Passed.{wired, wired-words, cables-most}
+use Rattle.station.proofs.Simple.{simple}
 use Rattle.order.specs.Reach.{check9, check10}
 use Rattle.order.specs.Checks.{stationChecks, allChecks}
 use Rattle.order.specs.Order.{order}
@@ -62,10 +64,10 @@ module _ (list : List ℕ) (pass : Clear allChecks list) where
   pub list-ranked : Ranked (graphOf (stationOf list))
   list-ranked = order-ranked (stationOf list) list-orderable
 
-  -- and what its limit of two corners rests on
-  pub list-once : EndsOnce (graphOf (stationOf list))
-  list-once =
-      let once = ranks-once (stationOf list) list-orderable (simple list (clear-8 list pass)) in
+  -- and, where no cable is repeated, what its limit of two corners rests on (2026-12)
+  pub list-once : firstRepeat list ≡ Nothing → EndsOnce (graphOf (stationOf list))
+  list-once none =
+      let once = ranks-once (stationOf list) list-orderable (simple list none) in
       let n = graphOf (stationOf list) .parts in
       record { lowest = once 0 1; highest = once (n - 2) (n - 1) }
 

@@ -32,7 +32,7 @@ linesAt m rank k = filter (λ i. eqb (rank i) k) (range m)
 abbrev pub Once : StGraph → ℕ → ℕ → Type 0
 Once g u v = (i j : ℕ) → i < size g → j < size g → lower g i ≡ u → upper g i ≡ v → lower g j ≡ u → upper g j ≡ v → i ≡ j
 
--- the two lowest ranks, and the two highest, are not joined more than once: what the limit of two corners rests on (2026-04)
+-- 2026-12: 'the two lowest ranks, and the two highest, are not joined more than once', which the limit of two corners rests on (2026-04)
 pub record EndsOnce (g : StGraph) : Type 0 where
   pub lowest : Once g 0 1
   pub highest : Once g (g .parts - 2) (g .parts - 1)

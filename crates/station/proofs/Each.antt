@@ -12,13 +12,12 @@ use lib.Dec.{eqb, ltb, leb}
 use Rattle.lists.specs.declared.Found.{Found}
 use Rattle.lists.specs.declared.Found.the-variants.{Nothing}
 use Rattle.lists.proofs.Bools.{or-right, or-fails, and-fails}
-use Rattle.lists.proofs.Search.{not-found}
 use Rattle.lists.proofs.Seek.{seek-nothing}
 use Rattle.words.specs.Words.{kindOf, spareOf, firstOf, secondOf, partsOf, cablesOf, ends, cable}
 use Rattle.words.specs.Limits.{leastParts, mostParts, mostDegree}
 use Rattle.station.specs.Station.{stationOf, degree}
 use Rattle.checks.specs.Checks.{Check, Clear}
-use Rattle.station.specs.Checks.{check1, kindAt, misplaced, check2, check3, check4, outside, check5, check6, sameParts, repeated, check7, check8, listChecks}
+use Rattle.station.specs.Checks.{check1, kindAt, misplaced, check2, check3, check4, outside, check5, check6, check8, listChecks}
 use Rattle.station.specs.Code.{upTo}
 use Rattle.checks.proofs.FirstRefusal.{atWhen-nothing}
 use Rattle.station.proofs.UpTo.{upTo-each}
@@ -105,13 +104,6 @@ module _ (list : List ℕ) (k : ℕ) (C : Clear (upTo k) list) where
   different h i a l =
       eqb-false (firstOf (getD list i 0)) (secondOf (getD list i 0))
       (seek-nothing (λ j. eqb (firstOf (getD list j 0)) (secondOf (getD list j 0))) 1 (length list - 1) (nothing 6 h) i a (omega arith))
-
-  pub unrepeated : 7 ≤ k → (i j : ℕ) → 2 ≤ i → i < j → j < length list → sameParts (getD list i 0) (getD list j 0) ≡ false
-  unfolding numbered listChecks check7 repeated
-  unrepeated h i j a b l =
-      seek-nothing (λ x. sameParts (getD list x 0) (getD list j 0)) 2 (j - 2)
-      (not-found _ (seek-nothing (repeated list) 2 (length list - 2) (nothing 7 h) j (omega arith) (omega arith)))
-      i a (omega arith)
 
   pub degree-most : 8 ≤ k → (p : ℕ) → p < stationOf list .parts → degree (stationOf list .cables) p ≤ mostDegree
   unfolding numbered listChecks check8

@@ -2,24 +2,19 @@
 use Prim.Native.Nat.{ℕ, _+_, _*_, _<_, _≤_}
 use native.Mathlib.Omega.{arith}
 use native.Mathlib.Decide.{decLt}
-use mathlib.Core.Path.{_≡_, refl, sym, subst₂, _∙_}
-use mathlib.Core.Logic.{_⊎_, inl, inr}
-use mathlib.Core.Bool.{true, false, _&&_, false≢true}
+use mathlib.Core.Path.{_≡_, refl, sym, _∙_}
 use mathlib.Core.List.{List, [], _∷_}
 use lib.ListN.{length, getD, List·getD-eq-default}
-use lib.Dec.{eqb}
-use borrow.Author.Tests.{eq-eqb}
-use Rattle.lists.proofs.Bools.{or-right}
 use Rattle.lists.proofs.Sums.{sum-le}
 use Rattle.words.specs.Words.{kindOf, spareOf, firstOf, secondOf, partsOf, cablesOf}
 use Rattle.words.specs.Limits.{leastParts, mostParts, mostDegree, mostCables}
-use Rattle.station.specs.Station.{Cable, noCable, Station, cableOf, stationOf, degree}
+use Rattle.station.specs.Station.{noCable, Station, stationOf, degree}
 use Rattle.checks.specs.Checks.{Clear}
-use Rattle.station.specs.Checks.{kindAt, sameParts, listChecks}
+use Rattle.station.specs.Checks.{kindAt, listChecks}
 use Rattle.station.specs.Code.{upTo, Wired}
 use Rattle.station.proofs.UpTo.{clear-upTo}
-use Rattle.station.proofs.Each.{placed, words-due, parts-between, inside, different, unrepeated, degree-most}
-use Rattle.station.proofs.Cables.{parts-are, source-is, analyser-is, line-word, cable-at, one-at, other-at}
+use Rattle.station.proofs.Each.{placed, words-due, parts-between, inside, different, degree-most}
+use Rattle.station.proofs.Cables.{parts-are, source-is, analyser-is, line-word, one-at, other-at}
 use Rattle.station.proofs.Handshake.{handshake, degree-none}
 
 -- the words of a list
@@ -32,7 +27,6 @@ pub record WellFormed (list : List ℕ) : Type 0 where
   pub first : (i : ℕ) → 1 ≤ i → i < length list → firstOf (getD list i 0) < partsOf (getD list 0 0)
   pub second : (i : ℕ) → 1 ≤ i → i < length list → secondOf (getD list i 0) < partsOf (getD list 0 0)
   pub differ : (i : ℕ) → 1 ≤ i → i < length list → firstOf (getD list i 0) ≡ secondOf (getD list i 0) → ⊥
-  pub once : (i j : ℕ) → 2 ≤ i → i < j → j < length list → sameParts (getD list i 0) (getD list j 0) ≡ false
   pub degrees : (p : ℕ) → p < stationOf list .parts → degree (stationOf list .cables) p ≤ mostDegree
 
 pub well-formed : (list : List ℕ) → Clear listChecks list → WellFormed list
@@ -47,7 +41,6 @@ well-formed list clear =
       first = λ i a l. inside list 8 C (omega arith) i a l .0;
       second = λ i a l. inside list 8 C (omega arith) i a l .1;
       differ = different list 8 C (omega arith);
-      once = unrepeated list 8 C (omega arith);
       degrees = degree-most list 8 C (omega arith);
     }
 
@@ -86,40 +79,6 @@ module _ (list : List ℕ) (F : WellFormed list) where
 
 pub wired : (list : List ℕ) → Clear listChecks list → Wired (stationOf list)
 wired list clear = well-wired list (well-formed list clear)
-
--- two cables join the same two parts, either way round
-abbrev pub SamePair : Cable → Cable → Type 0
-SamePair c d = ((c .one ≡ d .one) × (c .other ≡ d .other)) ⊎ ((c .one ≡ d .other) × (c .other ≡ d .one))
-
--- no two lines do: a simple graph
-abbrev pub Simple : Station → Type 0
-Simple st = (i j : ℕ) → i < length (st .cables) → j < length (st .cables) → SamePair (getD (st .cables) i noCable) (getD (st .cables) j noCable) → i ≡ j
-
-pair-flip : {c d : Cable} → SamePair c d → SamePair d c
-pair-flip (inl e) = inl (sym (e .0), sym (e .1))
-pair-flip (inr e) = inr (sym (e .1), sym (e .0))
-
-same-parts : (v w : ℕ) → SamePair (cableOf v) (cableOf w) → sameParts v w ≡ true
-unfolding sameParts cableOf
-same-parts v w (inl e) = rw (eq-eqb (firstOf v) (firstOf w) (e .0), eq-eqb (secondOf v) (secondOf w) (e .1))
-same-parts v w (inr e) =
-    or-right (eqb (firstOf v) (firstOf w) && eqb (secondOf v) (secondOf w)) (eqb (firstOf v) (secondOf w) && eqb (secondOf v) (firstOf w))
-    (rw (eq-eqb (firstOf v) (secondOf w) (e .0), eq-eqb (secondOf v) (firstOf w) (e .1)))
-
--- check 7
-pub simple : (list : List ℕ) → Clear listChecks list → Simple (stationOf list)
-simple list clear i j h g e = go (decLt i j) (decLt j i)
-  where
-    again : (a b : ℕ) → a < b → b < length (stationOf list .cables) → SamePair (getD (stationOf list .cables) a noCable) (getD (stationOf list .cables) b noCable) → ⊥
-    again a b l k s =
-        false≢true
-        (sym (well-formed list clear .once (2 + a) (2 + b) (omega arith) (omega arith) (line-word list b k))
-        ∙ same-parts (getD list (2 + a) 0) (getD list (2 + b) 0) (subst₂ SamePair (cable-at list a) (cable-at list b) s))
-
-    go : Dec (i < j) → Dec (j < i) → i ≡ j
-    go (yes l) k = absurd (again i j l g e)
-    go (no l) (yes k) = absurd (again j i k h (pair-flip e))
-    go (no l) (no k) = omega arith
 
 -- such a station's list has its head and its ends
 pub wired-words : (list : List ℕ) → Wired (stationOf list) → 2 ≤ length list

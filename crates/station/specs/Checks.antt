@@ -1,11 +1,11 @@
--- Document 01, 'Lists that are sent back': checks 1 to 8, each with its place. Assumes nothing.
+-- Document 01, 'Lists that are sent back': checks 1 to 8 without 7 (request 2026-12), each with its place. Assumes nothing.
 use Prim.Native.Nat.{ℕ, _+_, _-_}
 use mathlib.Core.Bool.{Bool, cond, not, _&&_, _||_}
 use mathlib.Core.List.{List, [], _∷_}
 use lib.ListN.{length, getD}
 use lib.Dec.{eqb, ltb, leb}
 use Rattle.lists.specs.declared.Found.{Found}
-use Rattle.lists.specs.Search.{seek, isFound}
+use Rattle.lists.specs.Search.{seek}
 use Rattle.words.specs.Words.{kindOf, spareOf, firstOf, secondOf, partsOf, cablesOf, listHead, ends, cable}
 use Rattle.words.specs.Limits.{leastParts, mostParts, mostDegree}
 use Rattle.checks.specs.Checks.{Check, atWhen}
@@ -47,24 +47,11 @@ check5 list = let n = partsOf (getD list 0 0) in seek (λ i. outside n (getD lis
 unfoldable pub check6 : List ℕ → Found
 check6 list = seek (λ i. eqb (firstOf (getD list i 0)) (secondOf (getD list i 0))) 1 (length list - 1)
 
--- 'joins the same two parts .. either way round'
-unfoldable pub sameParts : ℕ → ℕ → Bool
-sameParts v w =
-    (eqb (firstOf v) (firstOf w) && eqb (secondOf v) (secondOf w)) || (eqb (firstOf v) (secondOf w) && eqb (secondOf v) (firstOf w))
-
--- the cable word at i joins the same two parts 'as an earlier one'
-unfoldable pub repeated : List ℕ → ℕ → Bool
-repeated list i = isFound (seek (λ j. sameParts (getD list j 0) (getD list i 0)) 2 (i - 2))
-
--- 7: 'first such later word'
-unfoldable pub check7 : List ℕ → Found
-check7 list = seek (repeated list) 2 (length list - 2)
-
 -- 8: 'a part with more than four cables', 'lowest such part'
 unfoldable pub check8 : List ℕ → Found
 check8 list = let st = stationOf list in seek (λ p. ltb mostDegree (degree (st .cables) p)) 0 (st .parts)
 
--- the checks of a list's words, in their order
+-- the checks of a list's words, in their order; 2026-12: 'check 7 no longer occurs and its number stays empty'
 unfoldable pub listChecks : List Check
 listChecks =
     record { number = 1; finds = check1 }
@@ -73,6 +60,5 @@ listChecks =
     ∷ record { number = 4; finds = check4 }
     ∷ record { number = 5; finds = check5 }
     ∷ record { number = 6; finds = check6 }
-    ∷ record { number = 7; finds = check7 }
     ∷ record { number = 8; finds = check8 }
     ∷ []

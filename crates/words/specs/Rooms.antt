@@ -14,7 +14,3 @@ adjacencyPlaces = neighbourPlaces + mostParts
 -- parts on it, and the last ones put there are at most four
 abbrev pub stackPlaces : ℕ
 stackPlaces = neighbourPlaces + mostDegree
-
--- a table of the pairs of parts
-abbrev pub pairPlaces : ℕ
-pairPlaces = mostParts * mostParts

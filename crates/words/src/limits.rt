@@ -29,6 +29,3 @@ pub const ADJACENCY_PLACES: usize = NEIGHBOUR_PLACES + MOST_PARTS;
 // The stack of a walk, which puts its first part on it and then each part's neighbours in place of the part: a walk has at most 1 + 4n
 // parts on it, and the last ones put there are at most four.
 pub const STACK_PLACES: usize = NEIGHBOUR_PLACES + MOST_DEGREE;
-
-// A table of the pairs of parts.
-pub const PAIR_PLACES: usize = MOST_PARTS * MOST_PARTS;

@@ -23,10 +23,6 @@ clear-6 : (c : tie.After-enum-told2) → Clear (upTo 6) (c .before .before .befo
 unfolding listChecks filter
 clear-6 c = clear-more _ (upTo 5) _ (clear-5 (c .before .before .before)) (sym (c .before .before .loop-word .ensures) ∙ c .enum-told2 .given .1)
 
-clear-7 : (c : tie.After-enum-told3) → Clear (upTo 7) (c .before .before .before .before .before .before .before .before .before .before .args .list .now)
-unfolding listChecks filter
-clear-7 c = clear-more _ (upTo 6) _ (clear-6 (c .before .before .before)) (sym (c .before .before .repeated-cable .ensures) ∙ c .enum-told3 .given .1)
-
 outside-word-requires : tie.Need-outside-word-requires
 outside-word-requires c κs = omega (arith, two (c .before))
 
@@ -53,35 +49,22 @@ returns-2 c = sym (first-found _ (upTo 5) _ _ _ (clear-5 (c .before .before .bef
 enum-told-2 : tie.Need-enum-told-2
 enum-told-2 c = c .match2 .keys2
 
-repeated-cable-requires : tie.Need-repeated-cable-requires
-repeated-cable-requires c κs = clear-5 (c .before .before .before)
+crowded-part-requires : tie.Need-crowded-part-requires
+crowded-part-requires c κs = clear-6 c
 
 enum-known-place-3 : tie.Need-enum-known-place-3
 enum-known-place-3 c = c .match3 .keys1
 
 returns-3 : tie.Need-returns-3
 unfolding listChecks filter
-returns-3 c = sym (first-found _ (upTo 6) _ _ _ (clear-6 (c .before .before .before .before)) (sym (c .before .before .before .repeated-cable .ensures) ∙ c .before .place3 .given .1))
+returns-3 c = sym (first-found _ (upTo 6) _ _ _ (clear-6 (c .before .before .before .before)) (sym (c .before .before .before .crowded-part .ensures) ∙ c .before .place3 .given .1))
 
 enum-told-3 : tie.Need-enum-told-3
 enum-told-3 c = c .match3 .keys2
 
-crowded-part-requires : tie.Need-crowded-part-requires
-crowded-part-requires c κs = clear-6 (c .before .before .before)
-
-enum-known-place-4 : tie.Need-enum-known-place-4
-enum-known-place-4 c = c .match4 .keys1
-
 returns-4 : tie.Need-returns-4
 unfolding listChecks filter
-returns-4 c = sym (first-found _ (upTo 7) _ _ _ (clear-7 (c .before .before .before .before)) (sym (c .before .before .before .crowded-part .ensures) ∙ c .before .place4 .given .1))
-
-enum-told-4 : tie.Need-enum-told-4
-enum-told-4 c = c .match4 .keys2
-
-returns-5 : tie.Need-returns-5
-unfolding listChecks filter
-returns-5 c = sym (clear-more _ (upTo 7) _ (clear-7 (c .before .before .before)) (sym (c .before .before .crowded-part .ensures) ∙ c .enum-told4 .given .1))
+returns-4 c = sym (clear-more _ (upTo 6) _ (clear-6 (c .before .before .before)) (sym (c .before .before .crowded-part .ensures) ∙ c .enum-told3 .given .1))
 
 pub check-parts-spec : {M : Type 1} → statement M
-check-parts-spec = tie.close (tie.spec outside-word-requires enum-known-place returns enum-told loop-word-requires enum-known-place-2 returns-2 enum-told-2 repeated-cable-requires enum-known-place-3 returns-3 enum-told-3 crowded-part-requires enum-known-place-4 returns-4 enum-told-4 returns-5)
+check-parts-spec = tie.close (tie.spec outside-word-requires enum-known-place returns enum-told loop-word-requires enum-known-place-2 returns-2 enum-told-2 crowded-part-requires enum-known-place-3 returns-3 enum-told-3 returns-4)

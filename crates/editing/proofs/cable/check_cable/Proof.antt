@@ -1,4 +1,4 @@
--- `editing::cable::check_cable` meets its contract: the first of checks 5 to 8 that the new cable fails. Assumes nothing.
+-- `editing::cable::check_cable` meets its contract: the first of checks 5, 6 and 8 that the new cable fails. Assumes nothing.
 use native.Mathlib.Omega.{arith}
 use Prim.Native.Nat.{_<_}
 use mathlib.Core.Path.{_≡_, sym, _∙_}
@@ -9,7 +9,7 @@ use Rattle.lists.proofs.Bools.{or-fails}
 use Rattle.words.specs.Words.{partsOf}
 use Rattle.station.proofs.Cables.{parts-are}
 use Rattle.editor.proofs.Longer.{two, between}
-use Rattle.editor.proofs.Verdicts.{refused-5, refused-6, refused-7, refused-8, all-passed}
+use Rattle.editor.proofs.Verdicts.{refused-5, refused-6, refused-8, all-passed}
 use borrow.Author.Needs.{needs}
 use Rattle.editing.proofs.cable.check_cable.Statement.{statement}
 use Rattle.editing.proofs.cable.check_cable.Tie as tie
@@ -42,29 +42,20 @@ returns c = sym (refused-5 _ (c .before .before .before .before .pre) _ _ (rw (�
 returns-2 : tie.Need-returns-2
 returns-2 c = let i = inside (c .before) in sym (refused-6 _ (c .before .before .before .before .before .pre) _ _ (i .0) (i .1) (omega arith))
 
-is-repeated-requires : tie.Need-is-repeated-requires
-is-repeated-requires c κs =
-    let i = inside (c .before) in
-    let n = between _ (c .before .before .before .before .before .pre) in
-    record { first = omega (arith, i .0, n .1); second = omega (arith, i .1, n .1) }
-
-returns-3 : tie.Need-returns-3
-returns-3 c = let i = inside (c .before .before .before) in sym (refused-7 _ (c .before .before .before .before .before .before .before .pre) _ _ (i .0) (i .1) (λ e. c .before .before .if2 .left (omega arith)) (sym (c .before .is-repeated .ensures) ∙ c .if3 .taken))
-
 crowded-end-requires : tie.Need-crowded-end-requires
-crowded-end-requires c κs = let i = inside (c .before .before .before) in (c .before .before .before .before .before .before .before .pre, (rw (parts-are _) (i .0), rw (parts-are _) (i .1)))
+crowded-end-requires c κs = let i = inside (c .before) in (c .before .before .before .before .before .pre, (rw (parts-are _) (i .0), rw (parts-are _) (i .1)))
 
 enum-known-part : tie.Need-enum-known-part
 enum-known-part c = search needs
 
-returns-4 : tie.Need-returns-4
-returns-4 c = let i = inside (c .before .before .before .before .before .before .before) in sym (refused-8 _ (c .before .before .before .before .before .before .before .before .before .before .before .pre) _ _ (i .0) (i .1) (λ e. c .before .before .before .before .before .before .if2 .left (omega arith)) (sym (c .before .before .before .before .before .is-repeated .ensures) ∙ c .before .before .before .before .if3 .left) _ (sym (c .before .before .before .crowded-end .ensures) ∙ c .before .part .given .1))
+returns-3 : tie.Need-returns-3
+returns-3 c = let i = inside (c .before .before .before .before .before) in sym (refused-8 _ (c .before .before .before .before .before .before .before .before .before .pre) _ _ (i .0) (i .1) (λ e. c .before .before .before .before .if2 .left (omega arith)) _ (sym (c .before .before .before .crowded-end .ensures) ∙ c .before .part .given .1))
 
 enum-told : tie.Need-enum-told
 enum-told c = search needs
 
-returns-5 : tie.Need-returns-5
-returns-5 c = let i = inside (c .before .before .before .before .before .before) in sym (all-passed _ (c .before .before .before .before .before .before .before .before .before .before .pre) _ _ (i .0) (i .1) (λ e. c .before .before .before .before .before .if2 .left (omega arith)) (sym (c .before .before .before .before .is-repeated .ensures) ∙ c .before .before .before .if3 .left) (sym (c .before .before .crowded-end .ensures) ∙ c .enum-told .given .1))
+returns-4 : tie.Need-returns-4
+returns-4 c = let i = inside (c .before .before .before .before) in sym (all-passed _ (c .before .before .before .before .before .before .before .before .pre) _ _ (i .0) (i .1) (λ e. c .before .before .before .if2 .left (omega arith)) (sym (c .before .before .crowded-end .ensures) ∙ c .enum-told .given .1))
 
 pub check-cable-spec : {M : Type 1} → statement M
 check-cable-spec =
@@ -75,10 +66,8 @@ check-cable-spec =
     is-outside-requires
     returns
     returns-2
-    is-repeated-requires
-    returns-3
     crowded-end-requires
     enum-known-part
-    returns-4
+    returns-3
     enum-told
-    returns-5)
+    returns-4)

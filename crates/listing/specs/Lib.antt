@@ -1,2 +1,0 @@
--- What the code of checks 1 to 8 keeps. Assumes nothing.
-pub mod Pairs
