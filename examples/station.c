@@ -5,7 +5,7 @@
 
 static const char *const refusals[] = {
     "", "the list has fewer than two words", "a word's kind or spare bits are wrong, word",
-    "the list should have another count of words, namely", "the count of parts is not 3 to 256, but",
+    "the list should have another count of words, namely", "the count of parts is not 3 to 512, but",
     "a part number is too large, word", "two ends are the same part, word",
     "" /* 7 is empty */, "a part has more than four cables, part",
     "part 0 doesn't reach a part, part", "a part's removal cuts the station, part",

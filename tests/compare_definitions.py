@@ -38,6 +38,14 @@ def answer(words, room, discount, spacing):
     return reference.answer(words, room, discount, spacing or reference.GRID)
 
 
+def few(rng):
+    """Any list but one of 257 to 512 parts, which is long to compute and can only be refused."""
+    while True:
+        words = lists.any_list(rng, 3, 9)
+        if len(words) < 2 or not 256 < words[0] >> 16 & 0xfff <= lists.MOST_PARTS:
+            return words
+
+
 def due(words, room, *given):
     got = answer(words, room, *given)
     if got[0] == 'sheet':
@@ -143,7 +151,7 @@ def main(a):
     large = int(a[2]) if len(a) > 2 else 4
     rings = int(a[3]) if len(a) > 3 else 1
     rng = random.Random(seed)
-    cases = [lists.any_list(rng, 3, 9) if k % 3 else lists.drawn(rng, 3, 9) for k in range(count)]
+    cases = [few(rng) if k % 3 else lists.drawn(rng, 3, 9) for k in range(count)]
     cases += [lists.drawn(rng, 18, 21) for _ in range(large)]
     discounts = [lists.discount(rng) if rng.randrange(3) == 0 else None for _ in range(count)]
     discounts += [lists.good_discount(rng) if k % 2 else None for k in range(large)]

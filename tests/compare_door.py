@@ -11,17 +11,17 @@ import ctypes
 import random
 import sys
 import tempfile
-import threading
 import time
 
 import door
 import lists
 import reference
 
-STACK = 128 * 1024      # what the header asks for
-
 # where the numbers and the list lie in the block, in bytes
 WORDS, CROSSINGS, PLACE, LIST, SPARE = 8, 24, 40, 64, 16
+
+# of the largest stations: one that all have room for, one that those of 256 parts have, and one that none has
+LARGE_SPACINGS = (7, 7, 252), (15, 15, 120), (64, 64, 255)
 
 
 def packed(words):
@@ -69,7 +69,7 @@ class Comparison:
                     result, due[:1] + due[-1:], room, discount, spacing, len(words), ' '.join('%08x' % w for w in words[:40])))
 
     def far(self, most):
-        return self.rng.choice([most, most + 1, self.rng.randint(most, 3000)])
+        return self.rng.choice([most, most + 1, self.rng.randint(most, most + 1200)])
 
     def compare(self, words, discount):
         """The list with output lengths of 0, one less, exact, one more and far more; where there is no sheet, with 0, a few and far more. The same with
@@ -141,7 +141,7 @@ def damaged(rng, words):
 
 def long_list(rng):
     """Hundreds or thousands of cables, right in kind and count, among a few or many parts."""
-    n, m = rng.choice([3, 40, 256, rng.randint(3, 300)]), rng.randint(300, 4000)
+    n, m = rng.choice([3, 40, 256, 512, rng.randint(3, 300), rng.randint(256, 560)]), rng.randint(300, 4000)
     rows = [(rng.randrange(n), rng.randrange(n)) for _ in range(m)]
     if rng.random() < 0.8:
         rows = [(a, b if a != b else (a + 1) % n) for a, b in rows]
@@ -159,8 +159,10 @@ def any_list(rng):
         return lists.drawn(rng, 3, 40)
     if way < 0.68:
         return damaged(rng, lists.drawn(rng, 3, rng.choice([4, 8, 16])))
-    if way < 0.86:
+    if way < 0.84:
         return lists.refused(rng)
+    if way < 0.86:
+        return lists.about_limit(rng)
     if way < 0.96:
         return lists.noise(rng)
     if way < 0.99:
@@ -181,14 +183,16 @@ def million(rng):
         yield out
     yield [0] * count
     yield [rng.getrandbits(32) for _ in range(count)]
-    # 65,537 words: a part number that is too large, and a cable from a part to itself, in the last word; then all pairs of
-    # 256 parts and each once more, and all cables between the last two parts
-    full = [lists.head(256, 65535)] + right[1:65537]
-    yield full[:-1] + [lists.cable(0, 256)]
-    yield full[:-1] + [lists.cable(255, 255)]
-    pairs = sorted(lists.complete(256)[1])
-    yield lists.build(256, 0, 1, (pairs + pairs + pairs)[:65535])
-    yield lists.build(256, 0, 1, 65535 * [(254, 255)])
+    # 65,537 words of 256 and of 512 parts: a part number that is too large, and a cable from a part to itself, in the last word;
+    # then all pairs of parts and each once more, as far as there are lines, and all cables between the last two parts
+    for n in (256, 512):
+        full = [lists.head(n, 65535)] + right[1:65537]
+        yield full[:-1] + [lists.cable(0, n)]
+        yield full[:-1] + [lists.cable(n - 1, n - 1)]
+        pairs = sorted(lists.complete(n)[1])
+        yield lists.build(n, 0, 1, (pairs + pairs + pairs)[:65535])
+        yield lists.build(n, 0, 1, 65535 * [(n - 2, n - 1)])
+    yield [lists.head(513, 65535)] + right[1:65537]
 
 
 def main(a):
@@ -206,16 +210,22 @@ def compare_all(a, lib, good):
     c = Comparison(lib, rng)
 
     named = lists.boundaries() + [('a cable of %d steps' % steps, words) for steps, words in lists.runs()]
+    large = []
     for k, (_, words) in enumerate(named):
         c.compare(words, lists.GOOD[k % len(lists.GOOD)])
+        c.compare_spaced(words, lists.good_discount(rng), lists.GRID if k % 4 == 0 else lists.good_spacing(rng))
+        if lists.is_large(words):
+            large += [(words, room, reference.answer(words, None, discount, spacing or reference.GRID), discount, spacing)
+                      for room, discount in ((c.most, None), (c.most_quoted, 1250)) for spacing in (None, *LARGE_SPACINGS)]
     for discount in lists.DISCOUNTS:
         for _, words in named:
             if len(words) < 20:
                 c.compare(words, discount)
     for _, words, discount, spacing in lists.spaced():
         c.compare_spaced(words, lists.good_discount(rng) if discount is None else discount, spacing)
-    for k, (_, words) in enumerate(named):
-        c.compare_spaced(words, lists.good_discount(rng), lists.GRID if k % 4 == 0 else lists.good_spacing(rng))
+    print('%d lists with a name: %d calls, %.0f s' % (len(named), c.calls, time.time() - began))
+
+    began = time.time()
     for k in range(count):
         words = any_list(rng)
         c.compare(words, lists.good_discount(rng))
@@ -226,8 +236,8 @@ def compare_all(a, lib, good):
             words = lists.drawn(rng, 56, 130) if k % 1000 else lists.large(rng)
             for _ in range(4):
                 c.compare_spaced(words, lists.good_discount(rng), lists.edge_spacing(rng, words))
-    print('%d lists, and %d with a name; the longest sheet has %d words, with a bill %d; the largest head field is %d; %.0f s' % (
-        count, len(named), c.longest, c.longest_quoted, c.largest, time.time() - began))
+    print('%d lists; the longest sheet has %d words, with a bill %d; the largest head field is %d; %.0f s' % (
+        count, c.longest, c.longest_quoted, c.largest, time.time() - began))
 
     began, calls = time.time(), c.calls
     for words in million(rng):
@@ -257,18 +267,13 @@ def compare_all(a, lib, good):
 
     # the largest stations, on the stack that the header asks for
     calls = c.calls
-    threading.stack_size(STACK)
-    large = [(words, room, reference.answer(words, None, discount, spacing or reference.GRID), discount, spacing)
-             for name, words in named if '256 parts' in name for room, discount in ((c.most, None), (c.most_quoted, 1250)) for spacing in (None, (15, 15, 120), (64, 64, 255))]
 
     def small():
         for words, room, full, discount, spacing in large:
             c.call(words, packed(words), room, full, discount, spacing)
 
-    thread = threading.Thread(target=small)
-    thread.start()
-    thread.join()
-    print('on a stack of %d bytes: %d calls' % (STACK, c.calls - calls))
+    door.on_small_stack(small)
+    print('on a stack of %d bytes: %d calls' % (door.STACK, c.calls - calls))
     good = good and c.calls - calls == len(large)
 
     for name in sorted(c.tally):

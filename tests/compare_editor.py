@@ -11,14 +11,11 @@ import ctypes
 import random
 import sys
 import tempfile
-import threading
 import time
 
 import door
 import lists
 import reference
-
-STACK = 128 * 1024      # what the header asks for
 
 # where the numbers and the row lie in the block, in bytes
 VERSION, PLACE, ROW, SPARE = 8, 24, 48, 16
@@ -102,7 +99,7 @@ def compare_all(a, lib):
 
     began, calls = time.time(), c.calls
     for k in range(count):
-        c.run('run %d' % k, *lists.sequence(rng, reference.edit, k % 100 == 99))
+        c.run('run %d' % k, *lists.sequence(rng, reference.edit, 8 if k % 100 != 99 else 256 if k % 200 == 99 else 512))
     print('%d random runs: %d calls, %.0f s' % (count, c.calls - calls, time.time() - began))
 
     began, calls = time.time(), c.calls
@@ -122,16 +119,13 @@ def compare_all(a, lib):
     # the largest stations, on the stack that the header asks for
     calls = c.calls
     large = [run for run in named if len(run[1]) > 250]
-    threading.stack_size(STACK)
 
     def small():
         for run in large:
             c.named(*run)
 
-    thread = threading.Thread(target=small)
-    thread.start()
-    thread.join()
-    print('on a stack of %d bytes: %d calls' % (STACK, c.calls - calls))
+    door.on_small_stack(small)
+    print('on a stack of %d bytes: %d calls' % (door.STACK, c.calls - calls))
     good = c.calls - calls == sum(len(operations) for _, _, operations in large)
 
     for name in sorted(c.tally):

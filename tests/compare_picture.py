@@ -316,12 +316,12 @@ def stations(count, rng):
     for name, (text, _, _, _) in reference.REPEATS.items():
         yield name, reference.hexes(text)
     for name, words in lists.boundaries():
-        if name.startswith('sheet') and ('cables at s' in name or '256 parts' in name):
+        if name.startswith('sheet') and ('cables at s' in name or '256 parts' in name or '512 parts' in name):
             yield name, words
     for k in range(count):
         yield 'random %d' % k, lists.drawn(rng, 3, 40)
     for k in range(count // 20):
-        yield 'random %d of 256 parts' % k, lists.large(rng)
+        yield 'random %d of 256 to 512 parts' % k, lists.large(rng)
 
 
 # What must be told in words, and what must be seen.

@@ -1,7 +1,8 @@
 #!/usr/bin/env python3
 """Runs the sheet program and reference.py on fresh random lists and on files of every length, and compares what they print.
 
-  compare_program.py [COUNT [SEED]]     COUNT lists (default 1000); the program is target/bin/sheet, made by `rt check sheet`
+  compare_program.py [COUNT [SEED]]     COUNT lists (default 1000), and a fiftieth as many of 256 to 512 parts; the program is
+                                        target/bin/sheet, made by `rt check sheet`
 
 It is no part of the gate."""
 import os
@@ -21,8 +22,10 @@ def main(a):
     inputs = [data for _, data, _ in lists.files()]
     inputs += [reference.file_of(words) for _, words in lists.boundaries()]
     for k in range(count):
-        words = lists.noise(rng) if k % 5 == 4 else lists.any_list(rng, 3, 40) if k % 5 < 3 else lists.drawn(rng, 3, 24)
+        words = (lists.noise(rng) if k % 5 == 4 else lists.any_list(rng, 3, 40) if k % 5 < 3 else
+                 lists.drawn(rng, 3, 24) if k % 50 else lists.about_limit(rng))
         inputs.append(reference.file_of(words))
+    inputs += [reference.file_of(lists.large(rng)) for _ in range(count // 50)]
     tally, wrong = {}, 0
     for data in inputs:
         due = '\n'.join(reference.printed(data)) + '\n'

@@ -18,6 +18,7 @@ import ctypes
 import os
 import subprocess
 import sys
+import threading
 
 TOP = os.path.dirname(os.path.dirname(os.path.abspath(__file__)))
 ARCHIVE = os.path.join(TOP, 'target', 'staticlib', 'libexports.a')
@@ -26,6 +27,7 @@ INCLUDE = os.path.join(TOP, 'include')
 
 POINTER, SIZE, NUMBER = ctypes.c_void_p, ctypes.c_size_t, ctypes.c_uint32
 GUARD = 0x5a5a5a5a      # around a row
+STACK = 128 * 1024      # bytes that the header asks for
 WARNED = ['-Wall', '-Wextra', '-Wpedantic', '-Werror']
 COMPILERS = (['cc', '-std=c99', '-x', 'c'], ['g++', '-std=c++98', '-x', 'c++'], ['g++', '-std=c++17', '-x', 'c++'])
 
@@ -135,6 +137,15 @@ def agree(lib):
     said, has = header(), (lib.most_words(), lib.most_quoted_words())
     print('the header compiles as C99 and as C++; its constants are %d and %d, the library\'s %d and %d' % (said + has))
     return said == has
+
+
+def on_small_stack(work):
+    """Runs this work on the stack that the header asks for, part of which ctypes takes."""
+    before = threading.stack_size(STACK)
+    thread = threading.Thread(target=work)
+    thread.start()
+    thread.join()
+    threading.stack_size(before)
 
 
 def made(lib, words):

@@ -8,6 +8,8 @@ words with single spaces. A list of no words is an empty line.
 import random
 import sys
 
+MOST_PARTS = 512
+
 
 # Words, made without the reference so that a slip there is not repeated here.
 
@@ -116,6 +118,51 @@ def long_cable(n):
     cables = {(p, p + k) for p in range(3, n - 3) for k in (1, 2)}
     return n, cables | {(0, 1), (0, t), (1, 2), (1, 3), (2, n - 3), (2, t),
                         (3, n - 2), (4, n - 2), (n - 3, t), (n - 2, t)}
+
+
+def with_last(n, cables):
+    """The station with one part more, put into the last of its cables."""
+    a, b = max(cables)
+    return n + 1, cables - {(a, b)} | {(a, n), (b, n)}
+
+
+def ladder(n):
+    """Of n parts, 4 or more; where n is odd the last one is put into a cable."""
+    return with_last(*ladder(n - 1)) if n % 2 else grid(2, n // 2)
+
+
+def near_square(n):
+    """A grid of n parts, 4 or more, as square as can be; where n has no divisor the last
+    part is put into a cable of the grid of n - 1."""
+    wide = max(k for k in range(1, n) if n % k == 0 and k * k <= n)
+    return with_last(*near_square(n - 1)) if wide == 1 else grid(wide, n // wide)
+
+
+def of_ears(rng, n):
+    """A random station with 1.4 to 1.6 cables for each part."""
+    while True:
+        _, cables = ears(rng, n)
+        if 1.4 * n <= len(cables) <= 1.6 * n:
+            return n, cables
+
+
+KINDS = (('ladder', lambda rng, n: ladder(n)), ('grid', lambda rng, n: near_square(n)),
+         ('ring', lambda rng, n: ring(n)), ('four-regular', four_regular), ('random', of_ears))
+
+
+def rails(n):
+    """A list of n parts, an even number, 16 or more, of which many could wait long for their rank. A path from s ends at
+    t. Its second part is a rail of a ladder, and the other rail has its ranks first, so that each part of the path cuts
+    off those before it. Before the rail high and low numbers take turns: each low one is ranked once the high one
+    before it is, and is the lowest part that the whole rail cuts off."""
+    rungs = n // 5
+    turns = (n - 2) // 2 - rungs
+    low, rail, first, high = (list(range(k, k + size)) for k, size in (
+        (0, turns), (turns, rungs), (turns + rungs, rungs), (turns + 2 * rungs, turns)))
+    s, t = n - 2, n - 1
+    path = [s] + [p for two in zip(high, low) for p in two] + rail + [t]
+    other = [s] + first + [t]
+    return build(n, s, t, [*zip(path, path[1:]), *zip(other, other[1:]), *zip(rail, first)])
 
 
 # Stations with repeated cables, as (n, row of sorted pairs).
@@ -251,6 +298,12 @@ def listed(rng, n, cables, s, t, shuffled=True):
     return build(n, number[s], number[t], rows)
 
 
+def reversed_list(n, cables):
+    """The list of a station with its part numbers, its lines and their directions reversed: s is the last part and
+    t is part 0."""
+    return build(n, n - 1, 0, [(n - 1 - a, n - 1 - b) for a, b in sorted(cables)[::-1]])
+
+
 def drawn(rng, n_min=3, n_max=40):
     """A list that passes checks 1 to 10, with n_min to n_max parts; a third has
     repeated cables. The counts of cables at s and t, and whether a cable joins s to
@@ -290,13 +343,16 @@ def paired(rng, n_min=3, n_max=40):
 
 
 def large(rng):
-    """A list of 256 parts."""
+    """A list of 256 to 512 parts: mostly of 256, 257, 511 or 512. Some stations take an even
+    number, or one that 4 or 16 divides, and have as many."""
+    n = rng.choice([256, 256, 257, 511, 512, 512, rng.randint(257, MOST_PARTS)])
+    half = n // 2
     n, cables = rng.choice([
-        lambda: ring(256), lambda: grid(2, 128), lambda: grid(16, 16), lambda: grid(4, 64),
-        lambda: torus(16, 16), lambda: second_neighbours(256),
-        lambda: four_regular(rng, 256), lambda: ears(rng, 256),
-        lambda: bundle(rng, 256, 4), lambda: doubled(*ring(256)), lambda: triple_ring(256),
-        lambda: pair_ladder(128), lambda: repeated(rng, *ears(rng, 256))])()
+        lambda: ring(n), lambda: ladder(n), lambda: near_square(n), lambda: grid(4, n // 4),
+        lambda: torus(16, n // 16), lambda: second_neighbours(n),
+        lambda: four_regular(rng, n), lambda: ears(rng, n),
+        lambda: bundle(rng, n, 4), lambda: doubled(*ring(n)), lambda: triple_ring(2 * half),
+        lambda: pair_ladder(half), lambda: repeated(rng, *ears(rng, n))])()
     s, t = rng.sample(range(n), 2)
     return listed(rng, n, cables, s, t, rng.random() < 0.7)
 
@@ -361,6 +417,7 @@ def fault_3(rng, words):
 def fault_4(rng, words):
     out = list(words)
     if out:
+        # 257 and 258 pass, but leave parts without a cable.
         n = rng.choice([0, 1, 2, 257, 258, 0x203, 0xfff])
         out[0] = out[0] & 0xf000ffff | n << 16
     return out
@@ -483,7 +540,7 @@ def might_pass(words):
         return False
     n = words[0] >> 16 & 0xfff
     rows = [(w >> 12 & 0xfff, w & 0xfff) for w in words[1:]]
-    if not 3 <= n <= 256 or any(a >= n or b >= n or a == b for a, b in rows):
+    if not 3 <= n <= MOST_PARTS or any(a >= n or b >= n or a == b for a, b in rows):
         return False
     cables = rows[1:]
     if max(degrees(n, cables)) > 4:
@@ -516,6 +573,17 @@ def refused(rng):
             words = rng.choice(FAULTS[1:])(rng, words)
         if not might_pass(words):
             return words
+
+
+def about_limit(rng):
+    """A list whose n is some number around or above the most parts, and of which most
+    parts have no cable; now and then with other faults."""
+    words = drawn(rng, 3, rng.choice([4, 16, 40]))
+    n = rng.choice([257, 511, 512, 513, 514, 515, 768, 1024, 4095, rng.randint(257, 4095)])
+    words[0] = head(n, len(words) - 2)
+    while rng.random() < 0.35:
+        words = rng.choice(FAULTS[1:])(rng, words)
+    return words
 
 
 def noise(rng):
@@ -585,10 +653,13 @@ def boundaries():
         for bit in (24, 25, 26, 27):
             words = list(triangle)
             words[i] |= 1 << bit
+            n = 3 + (1 << bit - 16)
             if i:
                 no(2, i, 'bit %d at word %d' % (bit, i), words)
+            elif n > MOST_PARTS:
+                no(4, n, 'bit %d of the head is one of n' % bit, words)
             else:
-                no(4, 3 + (1 << bit - 16), 'bit %d of the head is one of n' % bit, words)
+                no(9, 3, 'bit %d of the head is one of n' % bit, words)
     no(2, 0, 'two words of zero', [0, 0])
     no(2, 1, 'head and zero', [triangle[0], 0])
     no(2, 2, 'two heads in place of cables', triangle[:2] + [triangle[0]] * 3)
@@ -605,28 +676,30 @@ def boundaries():
     no(9, 1, 'two words and m of 0', [head(3, 0), ends(0, 2)])
 
     # 4
-    for n in (0, 1, 2, 257, 258, 512, 4095):
+    for n in (0, 1, 2, 513, 514, 768, 1024, 2048, 2560, 4095):
         no(4, n, 'n of %d' % n, [head(n, 3)] + triangle[1:])
+    for n in (4, 255, 256, 257, 258, 511, 512):
+        no(9, 3, 'n of %d' % n, [head(n, 3)] + triangle[1:])
     no(4, 2, 'two parts and a cable', build(2, 0, 1, [(0, 1)]))
-    for n in (255, 256, 257):
-        cables = sorted(ring(n)[1])
-        words = build(n, 0, n - 1, cables)
-        if n == 257:
-            no(4, 257, 'ring of 257', words)
-        else:
-            put('sheet', 'ring of %d' % n, words)
+    for n in (255, 256, 257, 511, 512):
+        put('sheet', 'ring of %d' % n, build(n, 0, n - 1, sorted(ring(n)[1])))
+    no(4, 513, 'ring of 513', build(513, 0, 512, sorted(ring(513)[1])))
+    no(4, 513, '513 parts, no cable', build(513, 0, 1, []))
 
     # 5
     for i in range(1, 5):
-        for p in (3, 4, 256, 4095):
+        for p in (3, 4, 256, 512, 4095):
             for shift in (0, 12):
                 words = list(triangle)
                 words[i] = words[i] & ~(0xfff << shift) | p << shift
                 no(5, i, 'part %d at word %d, bit %d' % (p, i, shift), words)
     no(5, 3, 'part 3 at words 3 and 4', triangle[:3] + [cable(3, 1), cable(0, 3)])
-    big = build(256, 0, 255, sorted(ring(256)[1]))
-    no(5, 257, 'part 256 of 256 in the last word', big[:-1] + [cable(256, 0)])
-    no(5, 1, 't is 256 of 256', big[:1] + [ends(0, 256)] + big[2:])
+    for n in (256, 257, 512):
+        big = build(n, 0, n - 1, sorted(ring(n)[1]))
+        no(5, n + 1, 'part %d of %d in the last word' % (n, n), big[:-1] + [cable(n, 0)])
+        no(5, 1, 't is %d of %d' % (n, n), big[:1] + [ends(0, n)] + big[2:])
+    no(5, 513, 'part 512 of 512 in the second field', big[:-1] + [cable(0, 512)])
+    no(5, 1, 's is 512 of 512', big[:1] + [ends(512, 0)] + big[2:])
 
     # 6
     for p in range(3):
@@ -639,6 +712,10 @@ def boundaries():
        [triangle[0], ends(1, 1), cable(0, 0)] + triangle[3:])
     no(6, 3, 'two cables join a part to itself',
        triangle[:3] + [cable(2, 2), cable(1, 1)])
+    no(6, 513, 'part 511 of 512 joined to itself in the last word', big[:-1] + [cable(511, 511)])
+    # Equal in their low bytes alone.
+    put('sheet', 's is 0 and t is 256 of 512', big[:1] + [ends(0, 256)] + big[2:])
+    put('sheet', 's is 511 and t is 255 of 512', big[:1] + [ends(511, 255)] + big[2:])
 
     # 7 is the number of no check: a cable that joins two parts again is one as any other.
     no(9, 2, "check 7's example in document 01", build(3, 0, 2, [(0, 1), (1, 0)]))
@@ -678,6 +755,8 @@ def boundaries():
     no(8, 1, 'seven cables among three parts', build(3, 0, 2, 2 * [(0, 1)] + 3 * [(1, 2)] + 2 * [(0, 2)]))
     # More than a byte counts, among many parts and among few.
     no(8, 254, '256 cables between 254 and 255', build(256, 0, 255, 256 * [(254, 255)]))
+    no(8, 510, '256 cables between 510 and 511', build(512, 0, 511, 256 * [(510, 511)]))
+    no(8, 256, 'five cables between 256 and 257', build(258, 0, 257, 5 * [(256, 257)]))
     no(8, 1, '256 cables between 1 and 2', build(3, 0, 2, 256 * [(1, 2)]))
 
     # 9
@@ -688,8 +767,11 @@ def boundaries():
     no(9, 1, 'two triangles in turn',
        build(6, 0, 5, [(0, 2), (2, 4), (4, 0), (1, 3), (3, 5), (5, 1)]))
     no(9, 3, 'two triangles of pairs', build(6, 0, 5, 2 * (three + [(3, 4), (4, 5), (3, 5)])))
-    no(9, 255, 'part 255 of 256 alone', build(256, 0, 1, sorted(ring(255)[1])))
-    no(9, 1, '256 parts, no cable', build(256, 0, 1, []))
+    for n in (256, 257, 511, 512):
+        no(9, n - 1, 'part %d of %d alone' % (n - 1, n), build(n, 0, 1, sorted(ring(n - 1)[1])))
+        no(9, 1, '%d parts, no cable' % n, build(n, 0, 1, []))
+    no(9, 256, 'parts 0 to 255 of 512 in one ring and the others in another',
+       build(512, 0, 256, sorted(ring(256)[1]) + [(a + 256, b + 256) for a, b in sorted(ring(256)[1])]))
 
     # 10
     no(10, 1, 'path', build(3, 0, 2, [(0, 1), (1, 2)]))
@@ -708,13 +790,14 @@ def boundaries():
     no(10, 2, 'two triangles with a pair between',
        build(6, 0, 5, three + [(3, 4), (4, 5), (3, 5), (2, 3), (3, 2)]))
     no(10, 1, 'path of 40 pairs', build(41, 0, 40, 2 * [(p, p + 1) for p in range(40)]))
-    no(10, 1, 'path of 256', build(256, 0, 255, [(p, p + 1) for p in range(255)]))
-    no(10, 254, 'part 255 of 256 on one cable',
-       build(256, 0, 255, sorted(ring(255)[1]) + [(254, 255)]))
-    no(10, 255, 'only part 255 cuts',
-       build(256, 0, 1, sorted({pair(p, (p + 1) % 254) for p in range(254)} - {(0, 253)}
-                               | {(0, 255), (253, 255), (254, 255)}
-                               | {(p, p + 2) for p in range(252)})))
+    for n in (256, 257, 512):
+        no(10, 1, 'path of %d' % n, build(n, 0, n - 1, [(p, p + 1) for p in range(n - 1)]))
+        no(10, n - 2, 'part %d of %d on one cable' % (n - 1, n),
+           build(n, 0, n - 1, sorted(ring(n - 1)[1]) + [(n - 2, n - 1)]))
+        no(10, n - 1, 'only part %d cuts' % (n - 1),
+           build(n, 0, 1, sorted({pair(p, (p + 1) % (n - 2)) for p in range(n - 2)} - {(0, n - 3)}
+                                 | {(0, n - 1), (n - 3, n - 1), (n - 2, n - 1)}
+                                 | {(p, p + 2) for p in range(n - 4)})))
 
     # Several faults: the lower number goes first wherever its word stands.
     no(2, 4, '2 before 3 to 6', [head(2, 9), ends(9, 9), cable(1, 1), cable(1, 1), 0x40000000])
@@ -772,8 +855,26 @@ def boundaries():
         put('sheet', '256 parts: %s shuffled' % what,
             listed(rng, n, cables, *rng.sample(range(n), 2)))
 
+    # 257, 511 and 512 parts.
+    for n in (257, 511, 512):
+        for what, make in KINDS:
+            rng = random.Random('%s of %d' % (what, n))
+            _, cables = make(rng, n)
+            put('sheet', '%d parts: %s in order' % (n, what), build(n, 0, n - 1, sorted(cables)))
+            put('sheet', '%d parts: %s reversed' % (n, what), reversed_list(n, cables))
+            put('sheet', '%d parts: %s shuffled' % (n, what), listed(rng, n, cables, *rng.sample(range(n), 2)))
+    rng = random.Random(513)
+    for what, (n, cables) in (('torus', torus(16, 32)), ('next and next but one', second_neighbours(512)),
+                              ('four ways', bundle(rng, 512, 4))):
+        put('sheet', '512 parts: ' + what, build(n, 0, n - 1, sorted(cables)))
+        put('sheet', '512 parts: %s shuffled' % what,
+            listed(rng, n, cables, *rng.sample(range(n), 2)))
+
+    for n in (16, 256, 512):
+        put('sheet', '%d parts: rails' % n, rails(n))
+
     # The longest cable that is known for so many parts, without repeated ones.
-    for n in (9, 256):
+    for n in (9, 256, 257, 512):
         put('sheet', '%d parts: a cable of %d steps' % (n, 3 * n - 5),
             build(n, 0, n - 1, sorted(long_cable(n)[1])))
     return out + repeats()
@@ -876,13 +977,19 @@ def repeats():
         put('%d parts: %s' % (n, what), build(n, 0, n - 1, cables))
         put('%d parts: %s; s is 2, t is 1' % (n, what), build(n, 2, 1, cables))
 
-    rng = random.Random(512)
-    for what, (n, cables) in (('doubled ring', doubled(*ring(256))), ('triple ring', triple_ring(256)),
-                              ('chain of pairs', pair_chain(256)), ('pair ladder', pair_ladder(128)),
-                              ('random, with repeated cables', repeated(rng, *ears(rng, 256)))):
-        put('256 parts: ' + what, build(n, 0, n - 1, cables))
-        put('256 parts: %s shuffled' % what, listed(rng, n, cables, *rng.sample(range(n), 2)))
+    for n in (256, 512):
+        rng = random.Random(2 * n)
+        for what, (_, cables) in (('doubled ring', doubled(*ring(n))), ('triple ring', triple_ring(n)),
+                                  ('chain of pairs', pair_chain(n)), ('pair ladder', pair_ladder(n // 2)),
+                                  ('random, with repeated cables', repeated(rng, *(ears if n == 256 else of_ears)(rng, n)))):
+            put('%d parts: %s' % (n, what), build(n, 0, n - 1, cables))
+            put('%d parts: %s shuffled' % (n, what), listed(rng, n, cables, *rng.sample(range(n), 2)))
     return out
+
+
+def is_large(words):
+    """Whether a list has 256 parts or more, and no more than there may be."""
+    return len(words) > 1 and 256 <= (words[0] >> 16 & 0xfff) <= MOST_PARTS
 
 
 # Runs and discounts.
@@ -891,7 +998,7 @@ READY = sorted([2 << k for k in range(11)] + [3 << k for k in range(10)])
 
 
 def with_run(steps):
-    """A list whose sheet has a cable of so many steps, 1 to 763."""
+    """A list whose sheet has a cable of so many steps, 1 to 1,531."""
     if steps < 4:
         return build(4, 0, 2, [(0, 1), (1, 2), (2, 3), (3, 0)])
     if steps < 20:
@@ -905,10 +1012,11 @@ def with_run(steps):
 
 
 def runs():
-    """(steps, list) around each ready length up to 512: a cable that is a step
-    shorter, as long, and a step longer; then the longest that is known."""
-    around = {ready + k for ready in READY if ready <= 512 for k in (-1, 0, 1)}
-    return [(steps, with_run(steps)) for steps in sorted(around | {763})]
+    """(steps, list) around each ready length up to 1,024: a cable that is a step
+    shorter, as long, and a step longer; then the longest that is known of 256 parts
+    and of 512, which takes 1,536."""
+    around = {ready + k for ready in READY if ready <= 1024 for k in (-1, 0, 1)}
+    return [(steps, with_run(steps)) for steps in sorted(around | {763, 1531})]
 
 
 def halves(ready):
@@ -946,6 +1054,7 @@ def discount(rng):
 
 GRID = 1, 1, 0
 PITCHES = [1, 2, 3, 15, 16, 17, 63, 64]
+LARGE_PITCHES = [7, 8, 9]       # around the largest that 512 parts have room for
 BAD_PITCHES = [0, 65, 128, 256, 257, 65535, 65536, 65537, (1 << 31) + 1, (1 << 32) - 64, (1 << 32) - 1]
 MARGINS = [0, 1, 7, 8, 127, 128, 254, 255]
 BAD_MARGINS = [256, 257, 511, 65535, 65536, 65537, 1 << 31, (1 << 32) - 255, (1 << 32) - 1]
@@ -1025,15 +1134,33 @@ EDGES = [
         ((64, 64, 255), 4670)]),
     ('63 parts, 126 cables', full_list(63), [((63, 1, 31), 4094), ((63, 1, 32), 4096), ((64, 1, 0), 4096), ((1, 64, 0), 4096)]),
     ('62 parts, 124 cables', full_list(62), [((64, 1, 31), 4094), ((63, 1, 63), 4095), ((64, 1, 32), 4096), ((63, 1, 64), 4097)]),
+    ('ring of 257', ring_list(257), [((1, 15, 127), 4094), ((1, 15, 128), 4096), ((1, 16, 0), 4096), ((16, 16, 0), 4096)]),
+    ('ring of 511', ring_list(511), [((1, 8, 0), 4080), ((1, 8, 7), 4094), ((1, 8, 8), 4096), ((1, 9, 0), 4590)]),
+    ('ring of 512', ring_list(512), [
+        ((1, 8, 0), 4088), ((1, 8, 3), 4094), ((64, 8, 3), 4094), ((64, 1, 255), 1021), ((1, 7, 255), 4087),
+        ((1, 8, 4), 4096), ((1, 9, 0), 4599), ((1, 8, 255), 4598), ((1, 64, 0), 32704), ((64, 64, 255), 33214)]),
     ('255 parts, 510 cables', full_list(255), [
         ((15, 1, 127), 4094), ((15, 1, 128), 4096), ((16, 1, 0), 4096), ((1, 16, 0), 4096), ((16, 16, 0), 4096)]),
     ('256 parts, 511 cables', wide_list(256), [
         ((15, 16, 0), 4080), ((15, 16, 7), 4094), ((15, 15, 127), 4094),
         ((15, 16, 8), 4096), ((15, 15, 128), 4096), ((16, 16, 0), 4096), ((16, 17, 0), 4335), ((17, 16, 0), 4352)]),
-    # The longest sheets.
+    # The longest sheets of 256 parts.
     ('256 parts, 512 cables', full_list(256), [
         ((15, 15, 120), 4095), ((15, 1, 120), 4095), ((1, 15, 120), 4095), ((15, 15, 121), 4097),
         ((16, 1, 0), 4112), ((1, 16, 0), 4112), ((16, 20, 0), 5140), ((20, 16, 0), 5140), ((64, 64, 255), 16958)]),
+    ('257 parts, 514 cables', full_list(257), [
+        ((15, 15, 112), 4094), ((15, 1, 113), 4096), ((1, 15, 113), 4096), ((16, 1, 0), 4128), ((1, 16, 0), 4128)]),
+    ('510 parts, 1020 cables', full_list(510), [
+        ((8, 1, 3), 4094), ((1, 8, 3), 4094), ((8, 1, 4), 4096), ((1, 8, 4), 4096), ((9, 1, 0), 4599)]),
+    ('511 parts, 1022 cables', full_list(511), [
+        ((7, 1, 255), 4094), ((1, 7, 255), 4094), ((8, 1, 0), 4096), ((1, 8, 0), 4096), ((8, 8, 0), 4096)]),
+    ('512 parts, 1023 cables', wide_list(512), [
+        ((7, 8, 0), 4088), ((7, 8, 3), 4094), ((7, 7, 255), 4094),
+        ((7, 8, 4), 4096), ((8, 1, 0), 4096), ((8, 8, 0), 4096), ((8, 9, 0), 4599), ((9, 8, 0), 4608)]),
+    # The longest sheets.
+    ('512 parts, 1024 cables', full_list(512), [
+        ((7, 7, 252), 4095), ((7, 1, 252), 4095), ((1, 7, 252), 4095), ((7, 7, 253), 4097),
+        ((8, 1, 0), 4104), ((1, 8, 0), 4104), ((8, 10, 0), 5130), ((10, 8, 0), 5130), ((64, 64, 255), 33342)]),
 ]
 
 
@@ -1051,7 +1178,8 @@ def spaced():
 
     # 13
     triangle = build(3, 0, 2, [(0, 1), (1, 2), (0, 2)])
-    for place, good, bad in ((0, PITCHES, BAD_PITCHES), (1, PITCHES, BAD_PITCHES), (2, MARGINS, BAD_MARGINS)):
+    pitches = PITCHES + LARGE_PITCHES
+    for place, good, bad in ((0, pitches, BAD_PITCHES), (1, pitches, BAD_PITCHES), (2, MARGINS, BAD_MARGINS)):
         for numbers, refuses in ((good, False), (bad, True)):
             for k in numbers:
                 given = [2, 3, 10]
@@ -1091,9 +1219,10 @@ def spaced():
             due = 'sheet' if largest <= 4095 else 'refused 14 %d' % largest
             put(due, what, words, given)
             put(due, what, words, given, GOOD[k % len(GOOD)])
-    no(10, 1, '10 before 14', build(256, 0, 255, [(p, p + 1) for p in range(255)]), (64, 64, 255))
-    no(9, 255, '9 before 14', build(256, 0, 1, sorted(ring(255)[1])), (64, 64, 255), 500)
-    no(13, 2, '13 before 14', ring_list(256), (64, 64, 256))
+    for n in (256, 512):
+        no(10, 1, '10 before 14', build(n, 0, n - 1, [(p, p + 1) for p in range(n - 1)]), (64, 64, 255))
+        no(9, n - 1, '9 before 14', build(n, 0, 1, sorted(ring(n - 1)[1])), (64, 64, 255), 500)
+        no(13, 2, '13 before 14', ring_list(n), (64, 64, 256))
     return out
 
 
@@ -1164,7 +1293,7 @@ def edits():
     put('no words', [], unread(1, 0, 0))
     for w in (head(3, 0), head(3, 1), head(3, 65535), 0, LAST):
         put('one word %08x' % w, [w], unread(1, 1, w & 0xffff))
-    for m in (1, 2, 512, 65534, 65535):
+    for m in (1, 2, 512, 1024, 65534, 65535):
         put('head and ends; m is %d' % m, [head(3, m), ends(0, 2)], unread(3, m + 2, m))
     for k in (2, 3, 4):
         put('%d words of the triangle' % k, triangle[:k], unread(3, 5, 3))
@@ -1209,7 +1338,9 @@ def edits():
     # 5: the largest part, and numbers that are none. It comes before 6, and the low bits do
     # not count.
     for n, numbers in ((3, [3, 4, 255, 256, 4095, *TOO_WIDE]), (4, [4, 5, 256, 257, 4094, 4095, *TOO_WIDE]),
-                       (256, [256, 257, 511, 512, 4095, 4096 + 255, 65536 + 255, (1 << 24) + 255, LAST - 4095 + 255, LAST])):
+                       (256, [256, 257, 511, 512, 4095, 4096 + 255, 65536 + 255, (1 << 24) + 255, LAST - 4095 + 255, LAST]),
+                       (257, [257, 258, 512, 513, 4095, 4096 + 256, 65536 + 256, (1 << 24) + 256, LAST - 4095 + 256, LAST]),
+                       (512, [512, 513, 1023, 1024, 4095, 4096 + 511, 65536 + 511, (1 << 24) + 511, LAST - 4095 + 511, LAST])):
         cables = [c for p in numbers for c in ((p, 0), (n - 1, p))] + [(p, p) for p in numbers[::4]]
         cables += [(4097, 2), (1, 4098), (4098, 4097), (65537, 2), (2, 65537), (4096, 0), (0, 4096), (65536, 0)]
         put('part numbers among %d' % n, slots(build(n, 0, n - 1, [(1, 2)]), 2),
@@ -1289,6 +1420,32 @@ def edits():
     put('510 cables, each twice', slots(build(256, 0, 255, 2 * [(p, p + 1) for p in range(255)]), 2),
         away(8, 1, 510, (0, 1)), away(8, 254, 510, (255, 254)), fresh(255, 0, 510), fresh(0, 255, 511),
         away(8, 0, 512, (0, 255)))
+
+    # 512 parts. With 1,024 cables every part has four, so that 16 never comes.
+    full, wide, around = full_list(512), wide_list(512), ring_list(512)
+    for spare in (0, 1, 6):
+        put('1024 cables; %d words behind' % spare, slots(full, spare),
+            away(8, 0, 1024, (0, 256), (0, 511), (1, 0)), away(8, 256, 1024, (511, 256)), away(8, 508, 1024, (508, 511)),
+            away(6, 1026, 1024, (511, 511), (256, 256)), away(5, 1026, 1024, (512, 0), (256, 4096)),
+            stale(1024, (0, 256, 1023), (0, 256, 0), (0, 256, 65536 + 1024), (0, 512, 1025)))
+    put('1023 cables, no room', wide, away(16, 1025, 1023, (511, 0)), away(8, 2, 1023, (2, 511)), away(8, 256, 1023, (0, 256)),
+        away(8, 510, 1023, (510, 511)), stale(1023, (0, 511, 511), (0, 511, 255)))
+    put('1023 cables, room for one', slots(wide, 1), stale(1023, (0, 511, 1022)), fresh(511, 0, 1023),
+        away(8, 0, 1024, (0, 511), (0, 256)), stale(1024, (0, 256, 1023)))
+    put('512 cables of 512 parts', slots(around, 4), stale(512, *[(256, 3, v) for v in (0, 256, 511, 513, 1024)]),
+        fresh(256, 3, 512), fresh(510, 255, 513), away(5, 516, 514, (3, 512)), fresh(3, 256, 514),
+        away(8, 3, 515, (3, 256)), fresh(511, 0, 515), away(16, 518, 516, (0, 2), (0, 511)), away(8, 256, 516, (0, 256), (256, 511)))
+    put('511 cables of 512 parts', slots(build(512, 0, 511, [(p, p + 1) for p in range(511)]), 1),
+        fresh(511, 0, 511), away(16, 514, 512, (0, 2), (0, 511)))
+    put('1024 cables, each twice', slots(build(512, 0, 511, doubled(*ring(512))[1]), 1),
+        away(8, 0, 1024, (0, 1), (511, 0), (256, 0)), away(8, 510, 1024, (511, 510)), stale(1024, (0, 1, 1023)))
+    put('1022 cables, each twice', slots(build(512, 0, 511, 2 * [(p, p + 1) for p in range(511)]), 2),
+        away(8, 1, 1022, (0, 1)), away(8, 510, 1022, (511, 510)), fresh(511, 0, 1022), fresh(0, 511, 1023),
+        away(8, 0, 1024, (0, 511)))
+    # Parts whose numbers have one low byte.
+    put('four cables between 0 and 256', slots(build(512, 0, 256, 4 * [(0, 256)]), 3),
+        away(8, 0, 4, (0, 256), (0, 511), (256, 0)), away(8, 256, 4, (256, 511), (1, 256)), away(6, 6, 4, (256, 256), (0, 0)),
+        fresh(257, 1, 4), fresh(511, 255, 5), fresh(1, 257, 6), away(16, 9, 7, (257, 1)))
     return out
 
 
@@ -1303,8 +1460,11 @@ def long_edits():
             ('the greatest m in a million words', right + 934463 * [cable(0, 1)], 8, 0),
             ('the greatest m between the last two parts', right[:2] + most * [cable(255, 254)], 8, 254),
             ('kind 4 in the last word', right[:-1] + [0x40000000], 2, 65536),
-            ('257 parts', [head(257, most)] + right[1:], 4, 257),
+            ('513 parts', [head(513, most)] + right[1:], 4, 513),
+            ('512 parts', [head(512, most)] + right[1:], 8, 0),
+            ('the last two of 512 parts', [head(512, most), ends(0, 1)] + most * [cable(511, 510)], 8, 510),
             ('256 in the last word', right[:-1] + [cable(0, 256)], 5, 65536),
+            ('512 in the last word', [head(512, most)] + right[1:-1] + [cable(0, 512)], 5, 65536),
             ('the last word joins a part to itself', right[:-1] + [cable(9, 9)], 6, 65536)):
         yield name, row, unread(check, place, most)
     yield ('a million words behind the list', slots(build(3, 0, 2, [(0, 1)]), 1000000),
@@ -1326,17 +1486,23 @@ def loose(rng, n, m):
     return build(n, *rng.sample(range(n), 2), cables)
 
 
-def start(rng, large=False):
-    """A row to start from. Most hold a list that passes checks 1 to 8."""
+def start(rng, most=8):
+    """A row to start from. Most hold a list that passes checks 1 to 8: of 3 to 8 parts, of
+    up to 256 where most is 256, or of 257 to 512."""
     way = rng.random()
     if way < 0.10:
         words = refused(rng)
     elif way < 0.14:
         words = noise(rng)
     else:
-        n = rng.choice([13, 64, 255, 256, rng.randint(9, 256)]) if large else rng.choice([3, 4, 5, 6, 6, 7, 7, 8, 8])
+        if most == 8:
+            n = rng.choice([3, 4, 5, 6, 6, 7, 7, 8, 8])
+        elif most == 256:
+            n = rng.choice([13, 64, 255, 256, rng.randint(9, 256)])
+        else:
+            n = rng.choice([257, 511, 512, 512, rng.randint(257, MOST_PARTS)])
         words = loose(rng, n, rng.choice([0, 0, rng.randint(0, n), rng.randint(0, 2 * n), 2 * n - 1]))
-    spare = rng.choice([0, 1, 24, 600] if large else [0, 1, 2, 4, 8, 16, 24])
+    spare = rng.choice([0, 1, 2, 4, 8, 16, 24] if most == 8 else [0, 1, 24, 600])
     row = words + [rng.choice([rng.getrandbits(32), cable(rng.randrange(4), rng.randrange(4)), rng.choice(BEHIND)]) for _ in range(spare)]
     return row[:rng.randint(0, len(row))] if rng.random() < 0.02 else row
 
@@ -1371,9 +1537,10 @@ def some_cable(rng, n, cables):
     return first(lambda c: max(count[c[0]], count[c[1]]) < 4, pairs)
 
 
-def operation(rng, row, slips):
-    """The next operation, chosen by what the row holds; slips are those made so far."""
-    n = min(256, max(3, row[0] >> 16 & 0xfff)) if row else 3
+def operation(rng, row, slips, most):
+    """The next operation, chosen by what the row holds; slips are those made so far. Parts
+    are so many at most."""
+    n = min(most, max(3, row[0] >> 16 & 0xfff)) if row else 3
     m = row[0] & 0xffff if row else 0
     one, other = some_cable(rng, n, [(w >> 12 & 0xfff, w & 0xfff) for w in row[2:m + 2]])
     way = rng.random()
@@ -1388,12 +1555,12 @@ def operation(rng, row, slips):
     return COMMIT, one, other, m
 
 
-def run_on(rng, row, edit, count):
+def run_on(rng, row, edit, count, most=MOST_PARTS):
     """So many operations on a row, each with its answer and the row then; edit gives
     both for a row and an operation."""
     slips, done = [], []
     for _ in range(count):
-        asked = operation(rng, row, slips)
+        asked = operation(rng, row, slips, most)
         answer, row = edit(row, asked)
         if answer[0] == 'proposal':
             slips.append(answer[1:])
@@ -1401,10 +1568,10 @@ def run_on(rng, row, edit, count):
     return done
 
 
-def sequence(rng, edit, large=False):
-    """A row and a run on it. Some large stations grow by many cables."""
-    row = start(rng, large)
-    return row, run_on(rng, row, edit, rng.choice([20, 40, 400] if large else [3, 10, 20, 40]))
+def sequence(rng, edit, most=8):
+    """A row, as `start` makes it, and a run on it. Some large stations grow by many cables."""
+    row = start(rng, most)
+    return row, run_on(rng, row, edit, rng.choice([3, 10, 20, 40] if most == 8 else [20, 40, 400]), max(256, most))
 
 
 def files():
@@ -1421,9 +1588,13 @@ def files():
     full = b''.join(w.to_bytes(4, 'big') for w in
                     [head(3, 16382), ends(0, 2)] + [cable(0, 1), cable(1, 2)] * 8191)
     assert len(full) == 65536
+    largest, last = (b''.join(w.to_bytes(4, 'big') for w in [head(n, 16382), ends(0, 2)] + 16382 * [cable(510, 511)])
+                     for n in (512, 511))
     out += [('65532 bytes', full[:-4], 'refused 3 16384'),
             ('65535 bytes', full[:-1], 'broken file'),
             ('65536 bytes', full, 'refused 8 0'),
+            ('65536 bytes, 512 parts', largest, 'refused 8 510'),
+            ('65536 bytes, 511 parts', last, 'refused 5 2'),
             ('65537 bytes', full + b'0', 'file too large'),
             ('65540 bytes', full + full[:4], 'file too large'),
             ('a million bytes', bytes(1000000), 'file too large')]

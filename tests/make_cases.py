@@ -16,7 +16,7 @@ import reference
 HERE = os.path.dirname(os.path.abspath(__file__))
 CRATE = os.path.join(os.path.dirname(HERE), 'crates', 'cases')
 
-# of the largest stations four are kept: a ladder, one with 512 cables, one with a long cable, and one with pairs alone
+# of the stations of 256 parts four are kept: a ladder, one with 512 cables, one with a long cable, and one with pairs alone
 LARGE = ('sheet, 256 parts: ladder shuffled', 'sheet, 256 parts: 512 cables shuffled',
          'sheet, 256 parts: a cable of 763 steps', 'sheet, 256 parts: doubled ring shuffled')
 
@@ -30,12 +30,22 @@ DISCOUNTS = (0, 5, 500, 1250, 10000, 10001, 4294967295)
 
 SPACINGS = ((2, 3, 10), (64, 64, 255), (1, 64, 0), (64, 1, 1))
 
-# of the largest stations four calls that 14 lets pass, by the width and by the height, and six that it refuses; of those on 57 to 66 parts all
+# of those of 257, 511 and 512 parts all ladders, grids, rings, four-regular and random ones, and of the others one with pairs alone and one
+# whose parts wait long for their ranks
+LARGER = {'sheet, %d parts: %s %s' % (n, kind, how) for n in (257, 511, 512) for kind, _ in lists.KINDS
+          for how in ('in order', 'reversed', 'shuffled')} | {'sheet, 512 parts: doubled ring shuffled', 'sheet, 512 parts: rails'}
+
+# of stations of 255 parts and more some calls that 14 lets pass, by the width and by the height, and some that it refuses; of others all
 EDGES = {'ring of 256': ((1, 15, 135), (1, 16, 7), (1, 16, 8), (64, 64, 255)), '255 parts, 510 cables': ((15, 1, 128), (1, 16, 0)),
          '256 parts, 511 cables': ((15, 16, 7), (16, 16, 0)), '256 parts, 512 cables': ((15, 15, 120), (16, 20, 0))}
+LARGER_EDGES = {'ring of 257': ((1, 15, 128), (1, 16, 0)), 'ring of 511': ((1, 8, 8), (1, 9, 0)),
+                'ring of 512': ((1, 8, 3), (1, 8, 4), (1, 9, 0), (64, 64, 255)),
+                '257 parts, 514 cables': ((16, 1, 0), (1, 16, 0)), '510 parts, 1020 cables': ((8, 1, 4), (1, 8, 4), (9, 1, 0)),
+                '511 parts, 1022 cables': ((8, 1, 0), (1, 8, 0)), '512 parts, 1023 cables': ((7, 8, 4), (8, 1, 0), (8, 9, 0)),
+                '512 parts, 1024 cables': ((7, 7, 253), (8, 1, 0), (1, 8, 0), (10, 8, 0), (64, 64, 255))}
 
-# the program takes 131,072 bytes
-MOST_BYTES = 125000
+# the program takes 524,288 bytes
+MOST_BYTES = 500000
 
 
 def shape(words):
@@ -58,11 +68,13 @@ def examples():
 
 
 def is_stored(name):
-    """Of the boundaries all but most of the largest stations and, with repeated cables, most that differ from others in
-    the sequence of lines alone."""
-    left_out = (name.startswith('sheet, 256 parts') or name.endswith('lines reversed, some turned round')
+    """Of the boundaries all but most of the largest stations, of which the rings in order stand there once, and, with
+    repeated cables, most that differ from others in the sequence of lines alone."""
+    left_out = (name.startswith(('sheet, 256 parts', 'sheet, 257 parts', 'sheet, 512 parts', 'sheet, 511 parts'))
+                or name in ('sheet, ring of 257', 'sheet, ring of 511', 'sheet, ring of 512', 'sheet, s is 511 and t is 255 of 512')
+                or name.endswith('lines reversed, some turned round')
                 or 'behind others, some turned round' in name or 'the others turned round' in name)
-    return name in LARGE or not left_out
+    return name in LARGE or name in LARGER or not left_out
 
 
 def without_discount(rng):
@@ -81,7 +93,7 @@ def without_discount(rng):
 
 def with_discount(rng):
     """The worked stations; a cable as long as each ready length up to 512, and one a step longer; an example of each
-    check; three of the largest stations; random ones."""
+    check; three stations of 256 parts; random ones."""
     out = [(words, d) for words in worked() for d in DISCOUNTS]
     out += [(words, d) for words in with_repeats() for d in (0, 1250)]
     for ready, longer in zip(lists.READY, lists.READY[1:]):
@@ -112,11 +124,32 @@ def with_spacing(rng):
         out += [(words, None if k % 2 else lists.good_discount(rng), lists.bad_spacing(rng)),
                 (words, lists.good_discount(rng) if k % 2 else None, lists.good_spacing(rng))]
     for what, words, rows in lists.EDGES:
-        chosen = EDGES.get(what) or [spacing for spacing, _ in rows]
-        out += [(words, 1250 if k % 3 == 2 else None, spacing) for k, spacing in enumerate(chosen)]
+        if what not in LARGER_EDGES:
+            chosen = EDGES.get(what) or [spacing for spacing, _ in rows]
+            out += [(words, 1250 if k % 3 == 2 else None, spacing) for k, spacing in enumerate(chosen)]
     large = dict(lists.boundaries())
     out += [(large['refused 10 1, path of 256'], None, (64, 64, 255)), (lists.full_list(256), 1250, (15, 15, 120))]
     return out + [(lists.drawn(rng, 3, 24), lists.good_discount(rng) if k % 3 == 2 else None, lists.good_spacing(rng)) for k in range(30)]
+
+
+def with_512_parts(rng):
+    """The examples of check 4 at its limit, also with a discount and in a spacing; the longest sheets, with a bill on the grid
+    and in a spacing; cables that take the ready lengths of 1,024 and 1,536 steps; stations at the edge of 4,095; random
+    lists around the limit."""
+    grid, longest = reference.GRID, lists.full_list(512)
+    out = [(reference.hexes(text), discount, spacing) for text, _, _ in reference.PARTS_512
+           for discount, spacing in ((None, grid), (1250, grid), (None, (8, 8, 3)), (10001, (8, 8, 3)), (1250, (0, 8, 3)))]
+    out += [(longest, 1250, grid), (longest, 1250, (7, 7, 252))]
+    out += [(lists.with_run(1024), 0, grid), (lists.with_run(1025), rng.choice(lists.HALVES[1536] or [1250]), grid)]
+    for what, words, rows in lists.EDGES:
+        chosen = LARGER_EDGES.get(what, ())
+        if not set(chosen) <= {spacing for spacing, _ in rows}:
+            sys.exit('%s: a spacing without its largest number' % what)
+        out += [(words, 1250 if k % 3 == 2 else None, spacing) for k, spacing in enumerate(chosen)]
+    out += [(lists.about_limit(rng), None, grid) for _ in range(20)]
+    large = dict(lists.boundaries())
+    return out + [(large[name], 1250, (64, 64, 255)) for name in (
+        'refused 10 1, path of 512', 'refused 9 511, part 511 of 512 alone', 'refused 4 513, ring of 513')]
 
 
 def line(answer):
@@ -146,11 +179,11 @@ def say(what, calls):
 
 def main(a):
     rng = random.Random(int(a[0]) if a else 1)
-    plain, quoted, spaced = without_discount(rng), with_discount(rng), with_spacing(rng)
-    most = say('without a discount', plain), say('with one', quoted), say('with a spacing', spaced)
-    if most != (1798, 2311, 2311):
-        sys.exit('the longest sheets should have 1798, 2311 and 2311 words')
-    calls = plain + quoted + spaced
+    plain, quoted, spaced, larger = without_discount(rng), with_discount(rng), with_spacing(rng), with_512_parts(rng)
+    most = say('without a discount', plain), say('with one', quoted), say('with a spacing', spaced), say('with 512 parts', larger)
+    if most != (3590, 2311, 2311, 4615):
+        sys.exit('the longest sheets should have 3590, 2311, 2311 and 4615 words')
+    calls = plain + quoted + spaced + larger
     data, text = b'', []
     for words, d, spacing in calls:
         data += struct.pack('>%dI' % (len(words) + 6), len(words), d is not None, d or 0, *spacing, *words)

@@ -16,8 +16,8 @@ import reference
 HERE = os.path.dirname(os.path.abspath(__file__))
 CRATE = os.path.join(os.path.dirname(HERE), 'crates', 'sequences')
 
-# the program takes 131,072 bytes, and 1,024 words in a row
-MOST_BYTES, MOST_WORDS = 120000, 1024
+# the program takes 524,288 bytes, and 2,048 words in a row
+MOST_BYTES, MOST_WORDS = 500000, 2048
 
 
 def worked():
@@ -28,20 +28,21 @@ def by_name():
     return [(row, [operation for _, operation in operations]) for _, row, operations in lists.edits()]
 
 
-def by_chance(rng, count):
-    """Some of them on large stations; none with hundreds of operations, which `grown` has."""
+def by_chance(rng, count, most_parts, most_words):
+    """Each on a row as `lists.start` makes it for so many parts; none with hundreds of operations, which `grown` has."""
     out = []
     while len(out) < count:
-        row, done = lists.sequence(rng, reference.edit, len(out) % 40 == 39)
-        if len(row) <= MOST_WORDS and len(done) <= 40:
+        row, done = lists.sequence(rng, reference.edit, most_parts(len(out)))
+        if len(row) <= most_words and len(done) <= 40:
             out.append((row, [operation for operation, _, _ in done]))
     return out
 
 
-def grown(rng):
-    """A station of 256 parts from no cable to 512, most of them laid without a try and some tried first, with refused operations between; and then some on it."""
-    _, cables = lists.four_regular(rng, 256)
-    cables = sorted(cables)
+def grown(rng, n):
+    """A station of n parts from no cable to 2n, most of them laid without a try and some tried first, with refused operations between; and
+    then some on it."""
+    _, cables = lists.four_regular(rng, n)
+    cables, last = sorted(cables), n - 1
     rng.shuffle(cables)
     operations = []
     for m, c in enumerate(cables):
@@ -53,9 +54,10 @@ def grown(rng):
             operations.append((lists.COMMIT, one, other, m))
         if m % 16 == 12:
             operations.append((lists.PROPOSE, other, one, 0))
-    for one, other in ((0, 0), (255, 255), (0, 256), (256, 4096), cables[0], cables[511], cables[511][::-1], (0, 128), (128, 255), (254, 1)):
-        operations += [(lists.PROPOSE, one, other, 0), (lists.COMMIT, one, other, 512), (lists.COMMIT, one, other, 511)]
-    return lists.slots(lists.build(256, 0, 255, []), 520), operations
+    for one, other in ((0, 0), (last, last), (0, n), (n, 4096), cables[0], cables[-1], cables[-1][::-1], (0, n // 2), (n // 2, last),
+                       (n - 2, 1)):
+        operations += [(lists.PROPOSE, one, other, 0), (lists.COMMIT, one, other, 2 * n), (lists.COMMIT, one, other, 2 * n - 1)]
+    return lists.slots(lists.build(n, 0, last, []), 2 * n + 8), operations
 
 
 def expected(row, operations):
@@ -81,7 +83,10 @@ def say(what, sequences):
 def main(a):
     rng = random.Random(int(a[0]) if a else 1)
     sequences = []
-    for what, some in (('worked', worked()), ('by name', by_name()), ('grown', [grown(rng)]), ('by chance', by_chance(rng, 90))):
+    for what, some in (('worked', worked()), ('by name', by_name()), ('grown', [grown(rng, 256)]),
+                       ('by chance', by_chance(rng, 90, lambda k: 256 if k % 40 == 39 else 8, 1024)),
+                       ('grown, 512 parts', [grown(rng, 512)]),
+                       ('by chance, 257 to 512 parts', by_chance(rng, 8, lambda k: 512, MOST_WORDS))):
         say(what, some)
         sequences += some
     data, text = b'', []

@@ -5,10 +5,15 @@
   measure.py --markdown [WORD..]   the same as a table for docs/PERFORMANCE.md
   measure.py --quoted [WORD..]     as a table: instructions of both, without a discount and with one (`dovranis_draw_quoted`), and what a cable's price takes
   measure.py --spaced [WORD..]     as a table: instructions of both, on the grid and in a spacing (`dovranis_draw_spaced`), and what a spot on the sheet takes
-  measure.py --editor [WORD..]     as a table: instructions of `dovranis_propose` and `dovranis_commit` and of their like in baseline.c, on rows of 256 parts
-  measure.py --functions [WORD..]  where the instructions go, on stations of 256 parts
-  measure.py --passes [WORD..]     instructions on stations of 256 parts, with baseline.c in its simpler form too: a depth-first pass at each rank
+  measure.py --editor [WORD..]     as a table: instructions of `dovranis_propose` and `dovranis_commit` and of their like in baseline.c, on
+                                   rows of 256 and of 512 parts
+  measure.py --functions [WORD..]  where the instructions go, on stations of 512 parts
+  measure.py --passes [WORD..]     instructions on stations of 512 parts, with baseline.c in its simpler form too: a depth-first pass at
+                                   each rank
+  measure.py --stack               as a table: the most bytes of stack that each call takes, and the like in baseline.c, on the stations and
+                                   rows of 256 to 512 parts that lists.py names
   measure.py --program             instructions of the program target/bin/sheet (made by `rt check sheet`) and of baseline.c as a program
+  --parts N                        with --functions or --passes: stations of N parts
   --archive FILE                   takes this archive, and neither proves nor builds one; it may be without `dovranis_draw_quoted`, but for --quoted, without
                                    `dovranis_draw_spaced` and `dovranis_draw_quoted_spaced`, but for --spaced, and without `dovranis_propose` and
                                    `dovranis_commit`, but for --editor
@@ -29,9 +34,9 @@ import reference
 
 HERE = os.path.dirname(os.path.abspath(__file__))
 PROGRAM = os.path.join(door.TOP, 'target', 'bin', 'sheet')
-ROOM = 4096                     # words of output, more than any sheet has
+ROOM = 8192                     # words of output, more than any sheet has
 DISCOUNT = 1250
-SPACING = 8, 6, 20              # column pitch, row pitch, margin: every station here fits
+SPACING = 7, 6, 20              # column pitch, row pitch, margin: every station here fits
 SWEEPS, SECONDS = 10, 0.1       # over all lists, so that a busy minute of the machine spoils no list's best; for one list in a sweep, both calls together
 
 DRIVER = r'''
@@ -50,7 +55,7 @@ quoted baseline_draw_quoted;
 spaced baseline_draw_spaced;
 quoted_spaced baseline_draw_quoted_spaced;
 
-struct answer { uint32_t result, sheet[4096]; size_t words, crossings, place; };
+struct answer { uint32_t result, sheet[8192]; size_t words, crossings, place; };
 
 static uint32_t *list, discount, columns, rows, margin;
 static size_t count, room;
@@ -149,7 +154,7 @@ typedef uint32_t commit(uint32_t *, size_t, struct dovranis_proposal, size_t *);
 propose baseline_propose;
 commit baseline_commit;
 
-struct answer { uint32_t result, version, row[1024]; size_t place; };
+struct answer { uint32_t result, version, row[2048]; size_t place; };
 
 /* FILE propose|commit ours|baseline|both ONE OTHER VERSION */
 int main(int argc, char **argv) {
@@ -157,7 +162,7 @@ int main(int argc, char **argv) {
     if (argc != 7) return 2;
     struct dovranis_proposal p = {strtoul(argv[4], NULL, 10), strtoul(argv[5], NULL, 10), strtoul(argv[6], NULL, 10)};
     FILE *f = fopen(argv[1], "rb");
-    size_t count = fread(answers[0].row, 4, 1024, f);
+    size_t count = fread(answers[0].row, 4, 2048, f);
     memcpy(answers[1].row, answers[0].row, sizeof answers[0].row);
     for (int i = 0; i < 2; i++) {
         struct answer *a = &answers[i];
@@ -166,6 +171,87 @@ int main(int argc, char **argv) {
         else a->result = (i ? baseline_commit : dovranis_commit)(a->row, count, p, &a->place);
     }
     printf("%d %u\n", memcmp(&answers[0], &answers[1], sizeof answers[0]) == 0, answers[0].result);
+    return 0;
+}
+'''
+
+# Each call is made twice on a stack of its own, painted with one pattern and then with another; what it takes is told by the lowest byte
+# that is no longer as painted.
+STACK_DRIVER = r'''
+#define _GNU_SOURCE
+#include <stdio.h>
+#include <string.h>
+#include <sys/mman.h>
+#include <ucontext.h>
+#include "dovranis.h"
+
+typedef uint32_t plain(const uint32_t *, size_t, uint32_t *, size_t, size_t *, size_t *, size_t *);
+typedef uint32_t quoted(const uint32_t *, size_t, uint32_t *, size_t, uint32_t, size_t *, size_t *, size_t *);
+typedef uint32_t spaced(const uint32_t *, size_t, uint32_t *, size_t, uint32_t, uint32_t, uint32_t, size_t *, size_t *, size_t *);
+typedef uint32_t both(const uint32_t *, size_t, uint32_t *, size_t, uint32_t, uint32_t, uint32_t, uint32_t, size_t *, size_t *, size_t *);
+typedef uint32_t propose(const uint32_t *, size_t, uint32_t, uint32_t, uint32_t *, size_t *);
+typedef uint32_t commit(uint32_t *, size_t, struct dovranis_proposal, size_t *);
+plain baseline_draw;
+quoted baseline_draw_quoted;
+spaced baseline_draw_spaced;
+both baseline_draw_quoted_spaced;
+propose baseline_propose;
+commit baseline_commit;
+
+enum { STACK = 1 << 20, MOST = 1 << 17, ROOM = 8192 };
+
+static uint32_t row[MOST], list[MOST], sheet[ROOM], version, result;
+static uint32_t k[6];       /* the call, the count of words, and four numbers that the call is given */
+static size_t words, crossings, place, sum;
+static int theirs;
+static char *stack, *from;
+static ucontext_t here, there;
+
+#define OF(name) (theirs ? baseline_##name : dovranis_##name)
+#define NUMBERS &words, &crossings, &place
+
+static __attribute__((noinline)) void ask(void) {
+    from = __builtin_frame_address(0);
+    struct dovranis_proposal p = {k[2], k[3], k[4]};
+    switch (k[0]) {
+    case 0: result = OF(draw)(list, k[1], sheet, ROOM, NUMBERS); break;
+    case 1: result = OF(draw_quoted)(list, k[1], sheet, ROOM, k[2], NUMBERS); break;
+    case 2: result = OF(draw_spaced)(list, k[1], sheet, ROOM, k[3], k[4], k[5], NUMBERS); break;
+    case 3: result = OF(draw_quoted_spaced)(list, k[1], sheet, ROOM, k[2], k[3], k[4], k[5], NUMBERS); break;
+    case 4: result = OF(propose)(list, k[1], k[2], k[3], &version, &place); break;
+    case 5: result = OF(commit)(list, k[1], p, &place); break;
+    case 6: if (!theirs) sum += dovranis_most_words(); break;
+    case 7: if (!theirs) sum += dovranis_most_quoted_words(); break;
+    }
+}
+
+static long taken(char pattern) {
+    memset(stack, pattern, STACK);
+    memcpy(list, row, 4 * k[1]);
+    getcontext(&there);
+    there.uc_stack.ss_sp = stack;
+    there.uc_stack.ss_size = STACK;
+    there.uc_link = &here;
+    makecontext(&there, ask, 0);
+    swapcontext(&here, &there);
+    char *lowest = stack;
+    while (*lowest == pattern) lowest++;
+    return from - lowest;
+}
+
+/* FILE has for each call the six numbers and the words of the list or the row. A line for each call: bytes and result, ours and the
+   baseline's. */
+int main(int argc, char **argv) {
+    if (argc != 2) return 2;
+    FILE *f = fopen(argv[1], "rb");
+    stack = mmap(NULL, STACK, PROT_READ | PROT_WRITE, MAP_PRIVATE | MAP_ANONYMOUS, -1, 0);
+    while (fread(k, 4, 6, f) == 6 && fread(row, 4, k[1], f) == k[1]) {
+        for (theirs = 0; theirs < 2; theirs++) {
+            long one = taken(0x5a), other = taken(0xa5);
+            printf("%ld %u ", one > other ? one : other, k[0] < 6 ? result : 0);
+        }
+        puts("");
+    }
     return 0;
 }
 '''
@@ -186,25 +272,14 @@ def numbered(rng, n, cables, numbers):
     return lists.build(n, by[0], by[n - 1], [(by[a], by[b]) for a, b in sorted(cables)])
 
 
-def of_ears(rng, n):
-    """A random station with 1.4 to 1.6 cables for each part."""
-    while True:
-        _, cables = lists.ears(rng, n)
-        if 1.4 * n <= len(cables) <= 1.6 * n:
-            return n, cables
-
-
-KINDS = (('ladder', lambda rng, n: lists.grid(2, n // 2)), ('grid', lambda rng, n: lists.grid(int(n ** 0.5), int(n ** 0.5))), ('ring', lambda rng, n: lists.ring(n)),
-         ('four-regular', lists.four_regular), ('random', of_ears))
-
 # With repeated cables, and shuffled numbers: their parts are joined as those of a ring and of a ladder.
 PAIRED = (('doubled ring', lambda n: lists.doubled(*lists.ring(n))), ('triple ring', lists.triple_ring),
           ('pair ladder', lambda n: lists.pair_ladder(n // 2)))
 
 
-def stations(sizes=(16, 64, 256)):
+def stations(sizes=(16, 64, 256, 512)):
     for n in sizes:
-        for kind, make in KINDS:
+        for kind, make in lists.KINDS:
             name = '%s of %d' % (kind, n)
             rng = random.Random(name)
             _, cables = make(rng, n)
@@ -213,6 +288,7 @@ def stations(sizes=(16, 64, 256)):
         for kind, make in PAIRED:
             name = '%s of %d' % (kind, n)
             yield name + ', shuffled', numbered(random.Random(name), *make(n), 'shuffled'), ROOM
+        yield 'rails of %d' % n, lists.rails(n), ROOM
 
 
 def hung(rng, sizes):
@@ -228,7 +304,7 @@ def hung(rng, sizes):
 
 def refusals():
     """The longest list that each check refuses, with its fault as far behind as it can be; a million words where there is
-    no longest. Of 8 also all pairs of 256 parts, each once; 7 is the number of no check."""
+    no longest. Of 8 also as many pairs of 512 parts as there are lines, each once; 7 is the number of no check."""
     rng = random.Random(2)
     most = 65535
     long = [lists.cable(0, 1), lists.cable(1, 2)] * 500000
@@ -237,20 +313,19 @@ def refusals():
         return [lists.head(n, most), lists.ends(0, 1)] + (list(cables) + list(last))[:most]
 
     yield 'refused 1', [lists.head(3, 0)], ROOM
-    yield 'refused 2', [lists.head(256, most), lists.ends(0, 1)] + long[:999997] + [0x40000000], ROOM
-    yield 'refused 3', [lists.head(256, most), lists.ends(0, 1)] + long[:999998], ROOM
-    yield 'refused 4', full(257, long[:most]), ROOM
-    yield 'refused 5', full(256, long[:most - 1], [lists.cable(0, 256)]), ROOM
-    yield 'refused 6', full(256, long[:most - 1], [lists.cable(255, 255)]), ROOM
-    pairs = [lists.cable(a, b) for a, b in sorted(lists.complete(256)[1])]
-    yield 'refused 8', [lists.head(256, len(pairs)), lists.ends(0, 1)] + pairs, ROOM
-    yield 'refused 8, longest', full(256, most * [lists.cable(254, 255)]), ROOM
-    n, cables = lists.four_regular(rng, 251)
-    yield 'refused 9', lists.build(256, 0, 1, sorted(cables) + [(n + a, n + b) for a, b in sorted(lists.complete(5)[1])]), ROOM
-    n, cables = hung(rng, (128, 127))
+    yield 'refused 2', [lists.head(512, most), lists.ends(0, 1)] + long[:999997] + [0x40000000], ROOM
+    yield 'refused 3', [lists.head(512, most), lists.ends(0, 1)] + long[:999998], ROOM
+    yield 'refused 4', full(513, long[:most]), ROOM
+    yield 'refused 5', full(512, long[:most - 1], [lists.cable(0, 512)]), ROOM
+    yield 'refused 6', full(512, long[:most - 1], [lists.cable(511, 511)]), ROOM
+    yield 'refused 8', full(512, [lists.cable(a, b) for a, b in sorted(lists.complete(512)[1])]), ROOM
+    yield 'refused 8, longest', full(512, most * [lists.cable(510, 511)]), ROOM
+    n, cables = lists.four_regular(rng, 507)
+    yield 'refused 9', lists.build(512, 0, 1, sorted(cables) + [(n + a, n + b) for a, b in sorted(lists.complete(5)[1])]), ROOM
+    n, cables = hung(rng, (256, 255))
     yield 'refused 10', lists.build(n, 0, 1, sorted(cables)), ROOM
-    n, cables = lists.four_regular(rng, 256)
-    yield 'refused 11', lists.build(n, 0, 255, sorted(cables)), 1797
+    n, cables = lists.four_regular(rng, 512)
+    yield 'refused 11', lists.build(n, 0, 511, sorted(cables)), 3589
 
 
 def check_of(name):
@@ -393,18 +468,21 @@ def spaced(driver, asked):
         print('| %s | %s |' % (name, ' | '.join(['{:,}'.format(spots)] + row)), flush=True)
     print()
     refused(driver, 13, next(refusals())[1], (64, 64, 256))
-    refused(driver, 14, lists.full_list(256), (64, 64, 255))
+    refused(driver, 14, lists.full_list(512), (64, 64, 255))
 
 
 # The editor. The rows, as (name, words, cable); each has room behind its list.
 
 def rows():
-    for cables, words, cable in ((0, lists.build(256, 0, 255, []), (0, 255)), (256, lists.ring_list(256), (0, 128)), (511, lists.wide_list(256), (0, 255))):
-        yield '256 parts, %d cables' % cables, lists.slots(words, 8), cable
-    again = reference.two(words[-1])[::-1]
-    yield '256 parts, 256 cables, repeated', lists.slots(lists.ring_list(256), 8), (255, 0)
-    yield '256 parts, 511 cables, repeated, refused 8', lists.slots(words, 8), again
-    yield '256 parts, 511 cables, refused 8', lists.slots(words, 8), (0, 128)
+    for n in (256, 512):
+        last, most = n - 1, 2 * n - 1
+        for cables, words, cable in ((0, lists.build(n, 0, last, []), (0, last)), (n, lists.ring_list(n), (0, n // 2)),
+                                     (most, lists.wide_list(n), (0, last))):
+            yield '%d parts, %d cables' % (n, cables), lists.slots(words, 8), cable
+        again = reference.two(words[-1])[::-1]
+        yield '%d parts, %d cables, repeated' % (n, n), lists.slots(lists.ring_list(n), 8), (last, 0)
+        yield '%d parts, %d cables, repeated, refused 8' % (n, most), lists.slots(words, 8), again
+        yield '%d parts, %d cables, refused 8' % (n, most), lists.slots(words, 8), (0, n // 2)
 
 
 class EditorDriver(Linked):
@@ -433,6 +511,46 @@ def editor(driver, asked):
             i, j = driver.instructions(name, words, cable, call)
             row += ['{:,}'.format(i), '{:,}'.format(j), '%.1f' % (i / j)]
         print('| %s | %s |' % (name, ' | '.join(row)), flush=True)
+
+
+# The stack.
+
+CALLS = 'draw', 'draw_quoted', 'draw_spaced', 'draw_quoted_spaced', 'propose', 'commit', 'most_words', 'most_quoted_words'
+
+
+def stack_calls():
+    """(name, call, its four numbers, words) on the largest stations, drawn and refused, and on the rows of named runs."""
+    fits, wide = (DISCOUNT, *SPACING), (DISCOUNT, 64, 64, 255)
+    for name, words in lists.boundaries():
+        if lists.is_large(words):
+            for call in range(4):
+                yield name, call, fits, words
+            yield name + ', 14', 3, wide, words
+    for name, row, operations in lists.edits():
+        if lists.is_large(row):
+            for _, (what, one, other, version) in operations:
+                yield name, 4 + what, (one, other, version, 0), row
+    for call in (6, 7):
+        yield '', call, 4 * (0,), []
+
+
+def stack(linked):
+    """Results are compared on each call too."""
+    calls, words = list(stack_calls()), []
+    for _, call, numbers, its in calls:
+        words += [call, len(its), *numbers, *its]
+    got = subprocess.run([linked.program, linked.keep(words)], check=True, stdout=subprocess.PIPE, text=True).stdout.splitlines()
+    most = {}
+    for (name, call, _, _), line in zip(calls, got, strict=True):
+        ours, result, theirs, other = map(int, line.split())
+        if result != other:
+            sys.exit('%s, %s: the results are %d and %d' % (name, CALLS[call], result, other))
+        before = most.get(call, (0, '', 0))
+        most[call] = (*max(before[:2], (ours, name)), max(before[2], theirs))
+    print('The header asks for {:,} bytes.\n'.format(door.STACK))
+    print('| call | bytes | on | baseline |\n|---|---:|---|---:|')
+    for call, (ours, name, theirs) in sorted(most.items()):
+        print('| `dovranis_%s` | %s | %s | %s |' % (CALLS[call], '{:,}'.format(ours), name, '{:,}'.format(theirs) if call < 6 else ''))
 
 
 # Where the instructions go. The archive has one large function with most others inside: the call, or one that it calls. So each of its instructions is given to
@@ -520,7 +638,7 @@ def say_functions(by_name, total):
             print('%5.1f %%  in %s' % (100 * cost / total, function))
 
 
-def functions(driver, staged, asked):
+def functions(driver, staged, asked, parts):
     known, stage_of = {check_of(name): (words, room) for name, words, room in refusals()}, {}
     drawn = costs(driver.trace('ours', *known[11], ['--dump-instr=yes'])[0])[1]
     large = max(drawn, key=lambda function: len(drawn[function]))
@@ -530,7 +648,7 @@ def functions(driver, staged, asked):
             for address in costs(driver.trace('ours', words, room, ['--dump-instr=yes'])[0])[1].get(large, ()):
                 stage_of.setdefault(address, stage)
     spans = backward_jumps(driver.program, large)
-    for name, words, room in chosen(stations((256,)), asked):
+    for name, words, room in chosen(stations((parts,)), asked):
         n, m = reference.list_head(words[0])
         by_name, by_address = costs(driver.trace('ours', words, room, ['--dump-instr=yes'])[0])
         by_address, total = by_address[large], sum(by_name.values())
@@ -546,9 +664,9 @@ def functions(driver, staged, asked):
         print(flush=True)
 
 
-def passes(driver, other, asked):
+def passes(driver, other, asked, parts):
     print('| list | instructions | a pass at each rank | baseline |\n|---|---:|---:|---:|')
-    for name, words, room in chosen(stations((256,)), asked):
+    for name, words, room in chosen(stations((parts,)), asked):
         print('| %s | %s |' % (name, ' | '.join('{:,}'.format(d.instructions(which, words, room)) for d, which in ((driver, 'ours'), (other, 'baseline'), (driver, 'baseline')))), flush=True)
 
 
@@ -556,10 +674,11 @@ def passes(driver, other, asked):
 
 def program_stations():
     rng = random.Random(1)
-    for name, (n, cables) in (('ladder', lists.grid(2, 128)), ('grid', lists.grid(16, 16)), ('ring', lists.ring(256)),
-                              ('random, 512 cables', lists.four_regular(rng, 256))):
-        for numbers in NUMBERS:
-            yield '%s, %s' % (name, numbers), numbered(rng, n, cables, numbers)
+    for n in (256, 512):
+        for name, (_, cables) in (('ladder', lists.ladder(n)), ('grid', lists.near_square(n)), ('ring', lists.ring(n)),
+                                  ('random, %d cables' % (2 * n), lists.four_regular(rng, n))):
+            for numbers in NUMBERS:
+                yield '%s of %d, %s' % (name, n, numbers), numbered(rng, n, cables, numbers)
 
 
 def program_instructions(program, data, folder):
@@ -573,20 +692,26 @@ def compare_program(folder):
     baseline = os.path.join(folder, 'baseline')
     subprocess.run(['cc', '-O3', '-DBASELINE_MAIN', '-o', baseline, os.path.join(HERE, 'baseline.c')], check=True)
     empty = [program_instructions(p, b'', folder)[0] for p in (PROGRAM, baseline)]
-    print('%-34s %14s %14s %7s' % ('station', 'sheet', 'baseline', 'ratio'))
+    print('%-42s %14s %14s %7s' % ('station', 'sheet', 'baseline', 'ratio'))
     for name, words in program_stations():
         data = reference.file_of(words)
         (a, x), (b, y) = (program_instructions(p, data, folder) for p in (PROGRAM, baseline))
         a, b = a - empty[0], b - empty[1]
-        print('%-34s %14d %14d %7.2f%s' % (name, a, b, a / b, '' if x == y else '  OUTPUTS DIFFER'))
+        print('%-42s %14d %14d %7.2f%s' % (name, a, b, a / b, '' if x == y else '  OUTPUTS DIFFER'))
+
+
+def given(args, option):
+    """What stands behind an option, or None, and the other arguments."""
+    if option not in args:
+        return None, args
+    at = args.index(option)
+    return args[at + 1], args[:at] + args[at + 2:]
 
 
 def main(args):
-    archive = None
-    if '--archive' in args:
-        at = args.index('--archive')
-        archive = args[at + 1]
-        args = args[:at] + args[at + 2:]
+    archive, args = given(args, '--archive')
+    parts, args = given(args, '--parts')
+    parts = int(parts or 512)
     asked = [word for word in args if not word.startswith('--')]
     with tempfile.TemporaryDirectory() as folder:
         if '--program' in args:
@@ -596,15 +721,17 @@ def main(args):
             archive = door.ARCHIVE
         if '--editor' in args:
             return editor(EditorDriver(os.path.join(folder, 'editor'), archive), asked)
+        if '--stack' in args:
+            return stack(Linked(os.path.join(folder, 'stack'), archive, STACK_DRIVER, []))
         driver = Driver(os.path.join(folder, 'plain'), archive)
         if '--functions' in args:
-            return functions(driver, Driver(os.path.join(folder, 'stages'), archive, ['-DBASELINE_STAGES']), asked)
+            return functions(driver, Driver(os.path.join(folder, 'stages'), archive, ['-DBASELINE_STAGES']), asked, parts)
         if '--quoted' in args:
             return quoted(driver, asked)
         if '--spaced' in args:
             return spaced(driver, asked)
         if '--passes' in args:
-            return passes(driver, Driver(os.path.join(folder, 'passes'), archive, ['-DBASELINE_PASS_PER_RANK=1']), asked)
+            return passes(driver, Driver(os.path.join(folder, 'passes'), archive, ['-DBASELINE_PASS_PER_RANK=1']), asked, parts)
         return compare(driver, asked, '--markdown' in args)
 
 

@@ -1,8 +1,8 @@
 -- The first refusal of any list of checks: a prefix that finds nothing leaves it to the rest, the first check that finds a place gives it,
--- and a pass is a pass of each check; a check taken out; checks made on another list. Assumes nothing.
+-- and a pass is a pass of each check; a check taken out, or put in another's place; checks made on another list. Assumes nothing.
 use Prim.Native.Nat.{ℕ}
 use native.Mathlib.Omega.{arith}
-use mathlib.Core.Path.{_≡_, refl, sym, ap, _∙_}
+use mathlib.Core.Path.{_≡_, refl, sym, ap, ap₂, _∙_}
 use mathlib.Core.Logic.{_⊎_, inl, inr}
 use mathlib.Core.Bool.{Bool, true, false}
 use mathlib.Core.List.{List, [], _∷_, _++_, map, List·Memᴰ, List·Memᴰ·head, List·Memᴰ·tail, List·Memᴰ·not-nil}
@@ -123,6 +123,25 @@ module _ (list : List ℕ) where
         go (Refused n p) e f g = inr (refused-first n p e)
         go Passed e (At p) g = inl (p, first-found cs c ds p e g)
         go Passed e Nothing g = inr (found-nothing g)
+
+  -- a check c in the place of another of its number
+  module _ (c d : Check) (same : c .number ≡ d .number) (ds : List Check) where
+    -- where they find the same, nothing changes
+    pub found-same : c .finds list ≡ d .finds list → (cs : List Check) → firstRefusal (cs ++ c ∷ ds) list ≡ firstRefusal (cs ++ d ∷ ds) list
+    unfolding firstRefusal
+    found-same e [] = ap₂ (λ (k : ℕ) (f : Found). orElse k f (firstRefusal ds list)) same e
+    found-same e (b ∷ cs) = ap (orElse (b .number) (b .finds list)) (found-same e cs)
+
+    -- where c finds a place, it gives the refusal, or nothing changes, since one before it refuses
+    pub refused-or-same :
+        (p : ℕ) → c .finds list ≡ At p → (cs : List Check)
+        → (firstRefusal (cs ++ c ∷ ds) list ≡ Refused (c .number) p) ⊎ (firstRefusal (cs ++ c ∷ ds) list ≡ firstRefusal (cs ++ d ∷ ds) list)
+    refused-or-same p e cs = go (firstRefusal cs list) refl
+      where
+        go : (v : Verdict) → firstRefusal cs list ≡ v
+            → (firstRefusal (cs ++ c ∷ ds) list ≡ Refused (c .number) p) ⊎ (firstRefusal (cs ++ c ∷ ds) list ≡ firstRefusal (cs ++ d ∷ ds) list)
+        go (Refused k q) h = inr (refused-before cs (c ∷ ds) k q h ∙ sym (refused-before cs (d ∷ ds) k q h))
+        go Passed h = inl (first-found cs c ds p h e)
 
   pub no-check : Clear [] list
   no-check = each-clear [] (λ c m. absurd (List·Memᴰ·not-nil m))

@@ -3,4 +3,4 @@ use Prim.Native.Nat.{ℕ}
 
 -- the most words
 abbrev pub mostRead : ℕ
-mostRead = 32768
+mostRead = 131072

@@ -11,7 +11,7 @@ ghost use lib.ListN.{length};
 ghost use Rattle.console.specs.Input.{mostRead};
 
 // The most words that are read.
-pub const MOST_READ: usize = 32768;
+pub const MOST_READ: usize = 131072;
 
 // The most words that are said at once.
 pub const MOST_SAID: usize = 8192;

@@ -1,22 +1,31 @@
--- Check 14 on the longest ring (2026-06): 256 parts, each joined to the next, and the last to the first. That it passes checks 1 to 8 is
--- computed; 9 and 10 rest on paths along the ring, and 14 on the head of its drawing. Assumes nothing.
-use Prim.Native.Nat.{ℕ, zero, suc, _+_, _-_, _*_, _%_, _<_, _≤_, max}
+-- Check 14 on long rings (2026-06, 2026-11): n parts, each joined to the next, and the last to the first. That those of 256 and 512 parts
+-- pass checks 1 to 6 is computed; 8 rests on the two cables of a part, 9 and 10 on paths along the ring, and 14 on the head of its drawing.
+-- Assumes nothing.
+use Prim.Native.Nat.{ℕ, zero, suc, _+_, _-_, _*_, _<_, _≤_, max}
 use native.Mathlib.Omega.{arith}
 use native.Mathlib.Decide.{ℕ-discrete, decLt}
 use mathlib.Core.Path.{_≡_, refl, sym, ap, ap₂, subst, _∙_}
-use mathlib.Core.Bool.{cond}
-use mathlib.Core.Logic.{inl}
+use mathlib.Core.Bool.{cond, _||_, true, false≢true}
+use mathlib.Core.Logic.{_⊎_, inl, inr}
 use mathlib.Core.List.{List, _∷_}
 use lib.ListN.{length, getD, length-map}
+use lib.Dec.{ltb, eqb}
+use borrow.Author.Tests.{lt-ltb, le-ltb, eqb-true, ne-eqb}
 use Rattle.lists.specs.declared.Found.the-variants.{At, Nothing}
-use Rattle.lists.specs.Select.{tabulate}
+use Rattle.lists.specs.Select.{tabulate, range, count, filter, oneIf}
+use Rattle.lists.proofs.Bools.{or-e}
+use Rattle.lists.proofs.Seek.{First, None, seek-cases}
+use Rattle.lists.proofs.Tally.{count-places, count-either}
 use Rattle.lists.proofs.Select.{getD-map, getD-tabulate, length-tabulate}
-use Rattle.words.specs.Words.{cable, cableWord}
-use Rattle.words.proofs.Words.{fields-apart}
+use Rattle.words.specs.Limits.{leastParts, mostParts, mostDegree, mostField}
+use Rattle.words.specs.Words.{cable, cableWord, endsWord, listHeadWord}
+use Rattle.words.proofs.Words.{fields-apart, listHead-apart}
 use Rattle.prices.proofs.Discounts.{not-given}
-use Rattle.station.specs.Station.{Cable, Station, noCable, cableOf, stationOf}
+use Rattle.station.specs.Station.{Cable, Station, noCable, cableOf, stationOf, joins, degree}
 use Rattle.checks.specs.Checks.{Clear}
-use Rattle.station.specs.Checks.{listChecks}
+use Rattle.checks.proofs.FirstRefusal.{clear-more}
+use Rattle.station.specs.Checks.{check8, listChecks}
+use Rattle.station.specs.Code.{upTo}
 use Rattle.station.proofs.Computing.{station-computing}
 use Rattle.order.specs.Reach.{Joined, Path, arrived, onward, check9, check10}
 use Rattle.order.specs.Checks.{allChecks}
@@ -44,173 +53,261 @@ use Rattle.hookup.proofs.PartRows.{bottom-rows, top-rows, height-is}
 use Rattle.hookup.proofs.Demand3.{sheetOf}
 use Rattle.hookup.proofs.Answers.{refused-outcome, short-outcome, drawn-outcome}
 
--- cables 0-1, 1-2, .., 254-255 and 255-0, with s = 0 and t = 255
-abbrev pub ring : List ℕ
-ring = 0x11000100 ∷ 0x200000ff ∷ tabulate 256 (λ i. cableWord i ((i + 1) % 256))
+-- the part that a cable from part i leads to
+abbrev next : ℕ → ℕ → ℕ
+next n i = cond (ltb (suc i) n) (suc i) 0
 
-abbrev st : Station
-st = stationOf ring
+-- cables 0-1, 1-2, .. and from the last part to 0, with s = 0 and the last part for t
+abbrev pub ring : ℕ → List ℕ
+ring n = listHeadWord n n ∷ endsWord 0 (n - 1) ∷ tabulate n (λ i. cableWord i (next n i))
 
--- Its cables
+module _ (n : ℕ) (least : leastParts ≤ n) (most : n ≤ mostParts) (six : Clear (upTo 6) (ring n)) where
+  abbrev st : Station
+  st = stationOf (ring n)
 
-eight : Clear listChecks ring
-unfolding station-computing
-eight = refl
+  -- Its cables
 
-parts-are : st .parts ≡ 256
-unfolding stationOf
-parts-are = refl
+  parts-are : st .parts ≡ n
+  unfolding stationOf
+  parts-are = listHead-apart n n (omega (arith, most)) (omega (arith, most)) .parts-is
 
-cables-are : length (st .cables) ≡ 256
-unfolding stationOf
-cables-are = length-map (tabulate 256 (λ i. cableWord i ((i + 1) % 256))) cableOf ∙ length-tabulate 256 _
+  cables-are : length (st .cables) ≡ n
+  unfolding stationOf
+  cables-are = length-map (tabulate n (λ i. cableWord i (next n i))) cableOf ∙ length-tabulate n _
 
-cable-at : (i : ℕ) → i < 256 → getD (st .cables) i noCable ≡ record { one = i; other = (i + 1) % 256 }
-unfolding stationOf cableOf
-cable-at i h =
-    let a = fields-apart cable i ((i + 1) % 256) (omega arith) (omega arith) (omega arith) in
-    getD-map cableOf (tabulate 256 (λ j. cableWord j ((j + 1) % 256))) i 0 noCable (omega (arith, length-tabulate 256 (λ j. cableWord j ((j + 1) % 256))))
-    ∙ ap cableOf (getD-tabulate 256 (λ j. cableWord j ((j + 1) % 256)) i 0 h)
-    ∙ (λ k. record { one = a .first-is k; other = a .second-is k })
+  next-inside : (i : ℕ) → suc i < n → next n i ≡ suc i
+  next-inside i h = rw (lt-ltb (suc i) n h) refl
 
-joined-next : (i j : ℕ) → i < 256 → j ≡ (i + 1) % 256 → Joined (st .cables) i j
-joined-next i j h e =
-    let c = cable-at i h in
-    line-joined (st .cables) i j i (omega (arith, cables-are)) (inl (ap (λ (z : Cable). z .one) c, ap (λ (z : Cable). z .other) c ∙ sym e))
+  next-last : next n (n - 1) ≡ 0
+  next-last = rw (le-ltb (suc (n - 1)) n (omega arith)) refl
 
--- from a part on upward, k steps, through parts of a set
-along : (P : ℕ → Type 0) (a k : ℕ) → a + k < 256 → ((x : ℕ) → a ≤ x → x ≤ a + k → P x) → Path (st .cables) P (a + k) a
-along P a zero h p = arrived (p a (omega arith) (omega arith)) (omega arith)
-along P a (suc k) h p =
-    onward (suc a) (p a (omega arith) (omega arith)) (joined-next a (suc a) (omega arith) (omega arith))
-    (subst (λ (z : ℕ). Path (st .cables) P z (suc a)) (omega arith) (along P (suc a) k (omega arith) (λ x g l. p x (omega arith) (omega arith))))
-
-between : (P : ℕ → Type 0) (a b : ℕ) → a ≤ b → b < 256 → ((x : ℕ) → a ≤ x → x ≤ b → P x) → Path (st .cables) P b a
-between P a b h g p =
-    let e : a + (b - a) ≡ b = omega arith in
-    subst (λ (z : ℕ). Path (st .cables) P z a) e (along P a (b - a) (omega arith) (λ x l m. p x l (omega arith)))
-
-nine : check9 st ≡ Nothing
-nine = check9-nothing st .1 (λ p h. between (Part (st .parts)) 0 p (omega arith) (omega (arith, parts-are)) (λ x g l. omega arith))
-
--- without part v: along the part of the ring that is left, to part 0, or to part 1 where v is part 0
-module _ (v : ℕ) where
-  abbrev meeting : Dec (v ≡ 0) → ℕ
-  meeting (yes e) = 1
-  meeting (no e) = 0
-
-  to-meeting : (d : Dec (v ≡ 0)) (x : ℕ) → Off 256 v x → Path (st .cables) (Off 256 v) (meeting d) x
-  to-meeting (yes e) x h =
-      path-back (st .cables) (between (Off 256 v) 1 x (positive x (h .1)) (h .0) (λ y g l. (omega (arith, h .0), λ f. omega arith)))
+  next-small : (i : ℕ) → i < n → next n i ≤ mostField
+  next-small i h = go (decLt (suc i) n)
     where
-      positive : (k : ℕ) → (k ≡ v → ⊥) → 1 ≤ k
-      positive k n = omega arith
-  to-meeting (no e) x h = go (decLt x v)
+      go : Dec (suc i < n) → next n i ≤ mostField
+      go (yes l) = omega (arith, next-inside i l, most)
+      go (no l) = rw (le-ltb (suc i) n (omega arith)) (omega arith)
+
+  cable-at : (i : ℕ) → i < n → getD (st .cables) i noCable ≡ record { one = i; other = next n i }
+  unfolding stationOf cableOf
+  cable-at i h =
+      let a = fields-apart cable i (next n i) (omega arith) (omega (arith, most)) (next-small i h) in
+      getD-map cableOf (tabulate n (λ j. cableWord j (next n j))) i 0 noCable (omega (arith, length-tabulate n (λ j. cableWord j (next n j))))
+      ∙ ap cableOf (getD-tabulate n (λ j. cableWord j (next n j)) i 0 h)
+      ∙ (λ k. record { one = a .first-is k; other = a .second-is k })
+
+  joined-next : (i j : ℕ) → i < n → next n i ≡ j → Joined (st .cables) i j
+  joined-next i j h e =
+      let c = cable-at i h in
+      line-joined (st .cables) i j i (omega (arith, cables-are)) (inl (ap (λ (z : Cable). z .one) c, ap (λ (z : Cable). z .other) c ∙ e))
+
+  -- Part p has the cable from it and the one to it, from the part before it
+
+  abbrev before : (p : ℕ) → Dec (p ≡ 0) → ℕ
+  before p (yes e) = n - 1
+  before p (no e) = p - 1
+
+  two-ends : (p i : ℕ) → i < n → joins p (getD (st .cables) i noCable) ≡ true → (i ≡ p) ⊎ (i ≡ before p (ℕ-discrete p 0))
+  unfolding joins
+  two-ends p i h e =
+      go (or-e (eqb i p) (eqb (next n i) p) (subst (λ (c : Cable). (eqb (c .one) p || eqb (c .other) p) ≡ true) (cable-at i h) e))
     where
-      go : Dec (x < v) → Path (st .cables) (Off 256 v) 0 x
-      go (yes l) = path-back (st .cables) (between (Off 256 v) 0 x (omega arith) (h .0) (λ y g m. (omega (arith, h .0), λ f. omega arith)))
-      go (no l) =
-          let above : v < x = beyond x (h .1) l in
-          path-on (st .cables) (between (Off 256 v) x 255 (omega (arith, h .0)) (omega arith) (λ y g m. (omega arith, λ f. omega arith)))
-          (onward 0 (omega arith, λ f. omega (arith, h .0)) (joined-next 255 0 (omega arith) refl) (arrived (omega arith, λ f. e (sym f)) refl))
-        where
-          beyond : (k : ℕ) → (k ≡ v → ⊥) → (k < v → ⊥) → v < k
-          beyond k n m = omega arith
+      back : (d : Dec (p ≡ 0)) → Dec (suc i < n) → next n i ≡ p → i ≡ before p d
+      back (yes z) (yes l) f = absurd (omega (arith, next-inside i l))
+      back (yes z) (no l) f = omega arith
+      back (no z) (yes l) f = omega (arith, next-inside i l)
+      back (no z) (no l) f = absurd (z (sym f ∙ rw (le-ltb (suc i) n (omega arith)) refl))
 
-  keeps : (a b : ℕ) → Off 256 v a → Off 256 v b → Path (st .cables) (Off 256 v) b a
-  keeps a b h g =
-      let d = ℕ-discrete v 0 in
-      path-on (st .cables) (to-meeting d a h) (path-back (st .cables) (to-meeting d b g))
+      go : (eqb i p ≡ true) ⊎ (eqb (next n i) p ≡ true) → (i ≡ p) ⊎ (i ≡ before p (ℕ-discrete p 0))
+      go (inl f) = inl (eqb-true i p f)
+      go (inr f) = inr (back (ℕ-discrete p 0) (decLt (suc i) n) (eqb-true (next n i) p f))
 
-ten : check10 st ≡ Nothing
-unfolding stationOf
-ten = check10-nothing st .1 (λ v h. keeps v)
-
-ring-passes : Clear allChecks ring
-ring-passes = all-clear ring eight nine ten
-
--- Its drawing
-
-orderable : Orderable st
-orderable = list-orderable ring ring-passes
-
-source-cables : rowsBelow st ≡ 0
-unfolding station-computing rowsBelow
-source-cables = refl
-
-analyser-cables : rowsAbove st ≡ 0
-unfolding station-computing rowsAbove
-analyser-cables = refl
-
-width-1 : drawing st .width ≡ 1
-width-1 = omega (arith, grid-sizes st orderable .width, parts-are, cables-are)
-
-height-255 : drawing st .height ≡ 255
-height-255 = omega (arith, height-is st orderable, source-cables, analyser-cables, parts-are)
-
--- With column pitch 1 and no margin
-
-module _ (pitch : ℕ) (good : check13 (spacedBy 1 pitch 0 plain .spacing) ≡ Nothing) where
-  abbrev options : Options
-  options = spacedBy 1 pitch 0 plain
-
-  abbrev sheet : Drawing
-  sheet = spaced (options .spacing) (drawing st)
-
-  given : Clear (givenChecks options) ring
-  given = list-decides options ring not-given good ∙ ring-passes
-
-  width-there : sheet .width ≡ 1
-  unfolding spaced columnAt
-  width-there = omega (arith, width-1)
-
-  height-there : sheet .height ≡ 255 * pitch
-  unfolding spaced rowAt
-  height-there = ap (λ (h : ℕ). 0 + h * pitch + 0) height-255 ∙ omega arith
-
-  -- 14 looks at the larger of the two
-  fourteen : check14 sheet ≡ cond (tooLarge (max 1 (255 * pitch))) (At (max 1 (255 * pitch))) Nothing
-  fourteen =
-      head-alone st orderable (options .spacing) (passed-13 (options .spacing) good)
-      ∙ ap₂ (λ (w h : ℕ). cond (tooLarge (max w h)) (At (max w h)) Nothing) width-there height-there
-
-  too-high : (place room : ℕ) → check14 sheet ≡ At place → outcome options ring room ≡ sentBack 14 place
-  too-high place room e = refused-outcome options ring room 14 place (refused-14 options ring given place e)
-
-  words-772 : length (sheetOf options ring) ≡ 772
-  words-772 =
+  two-cables : (p : ℕ) → degree (st .cables) p ≤ 2
+  unfolding degree
+  two-cables p =
       omega (
         arith,
-        ap length (plain-words (options .spacing) (drawing st)),
-        all-words st orderable (options .spacing),
-        bottom-rows st orderable,
-        top-rows st orderable,
-        source-cables,
-        analyser-cables,
-        parts-are,
-        cables-are,
+        count-places (joins p) (st .cables) noCable,
+        ap (λ (m : ℕ). count (λ i. joins p (getD (st .cables) i noCable)) (range m)) cables-are,
+        count-either (λ i. joins p (getD (st .cables) i noCable)) n p (before p (ℕ-discrete p 0)) (two-ends p),
       )
 
-  fits : (room : ℕ) → check14 sheet ≡ Nothing → 772 ≤ room → outcome options ring room ≡ written (sheetOf options ring) (crossings (drawing st))
-  fits room e h = drawn-outcome options ring (call-clear options ring given e) room (omega (arith, words-772))
+  nothing-8 : check8 (ring n) ≡ Nothing
+  unfolding check8
+  nothing-8 = go (seek-cases (λ p. ltb mostDegree (degree (st .cables) p)) 0 (st .parts))
+    where
+      go : ((x : ℕ) × (check8 (ring n) ≡ At x) × First (λ p. ltb mostDegree (degree (st .cables) p)) 0 (st .parts) x)
+          ⊎ ((check8 (ring n) ≡ Nothing) × None (λ p. ltb mostDegree (degree (st .cables) p)) 0 (st .parts))
+          → check8 (ring n) ≡ Nothing
+      go (inl f) = absurd (false≢true (sym (le-ltb mostDegree (degree (st .cables) (f .0)) (omega (arith, two-cables (f .0)))) ∙ f .2 .passes))
+      go (inr f) = f .0
 
-  short : (room : ℕ) → check14 sheet ≡ Nothing → room < 772 → outcome options ring room ≡ sentBack 11 772
-  short room e h = short-outcome options ring (call-clear options ring given e) room (omega (arith, words-772)) ∙ ap (sentBack 11) words-772
+  eight : Clear listChecks (ring n)
+  unfolding listChecks filter
+  eight = clear-more (ring n) (upTo 6) (record { number = 8; finds = check8 }) six nothing-8
 
--- 64 passes 4,095, whatever the length of the output; 16 is the largest pitch that fits
+  no-row : (p : ℕ) → oneIf (eqb (degree (st .cables) p) 4) ≡ 0
+  no-row p = ap oneIf (ne-eqb (degree (st .cables) p) 4 (λ e. omega (arith, two-cables p)))
+
+  source-cables : rowsBelow st ≡ 0
+  unfolding rowsBelow
+  source-cables = no-row (st .source)
+
+  analyser-cables : rowsAbove st ≡ 0
+  unfolding rowsAbove
+  analyser-cables = no-row (st .analyser)
+
+  -- from a part on upward, k steps, through parts of a set
+  along : (P : ℕ → Type 0) (a k : ℕ) → a + k < n → ((x : ℕ) → a ≤ x → x ≤ a + k → P x) → Path (st .cables) P (a + k) a
+  along P a zero h p = arrived (p a (omega arith) (omega arith)) (omega arith)
+  along P a (suc k) h p =
+      onward (suc a) (p a (omega arith) (omega arith)) (joined-next a (suc a) (omega arith) (next-inside a (omega arith)))
+      (subst (λ (z : ℕ). Path (st .cables) P z (suc a)) (omega arith) (along P (suc a) k (omega arith) (λ x g l. p x (omega arith) (omega arith))))
+
+  between : (P : ℕ → Type 0) (a b : ℕ) → a ≤ b → b < n → ((x : ℕ) → a ≤ x → x ≤ b → P x) → Path (st .cables) P b a
+  between P a b h g p =
+      let e : a + (b - a) ≡ b = omega arith in
+      subst (λ (z : ℕ). Path (st .cables) P z a) e (along P a (b - a) (omega arith) (λ x l m. p x l (omega arith)))
+
+  nine : check9 st ≡ Nothing
+  nine =
+      check9-nothing st .1
+      (λ p h. between (Part (st .parts)) 0 p (omega arith) (omega (arith, parts-are)) (λ x g l. omega (arith, parts-are)))
+
+  -- without part v: along the part of the ring that is left, to part 0, or to part 1 where v is part 0
+  module _ (v : ℕ) where
+    abbrev meeting : Dec (v ≡ 0) → ℕ
+    meeting (yes e) = 1
+    meeting (no e) = 0
+
+    to-meeting : (d : Dec (v ≡ 0)) (x : ℕ) → Off n v x → Path (st .cables) (Off n v) (meeting d) x
+    to-meeting (yes e) x h =
+        path-back (st .cables) (between (Off n v) 1 x (positive x (h .1)) (h .0) (λ y g l. (omega (arith, h .0), λ f. omega arith)))
+      where
+        positive : (k : ℕ) → (k ≡ v → ⊥) → 1 ≤ k
+        positive k g = omega arith
+    to-meeting (no e) x h = go (decLt x v)
+      where
+        go : Dec (x < v) → Path (st .cables) (Off n v) 0 x
+        go (yes l) = path-back (st .cables) (between (Off n v) 0 x (omega arith) (h .0) (λ y g m. (omega (arith, h .0), λ f. omega arith)))
+        go (no l) =
+            let above : v < x = beyond x (h .1) l in
+            path-on (st .cables) (between (Off n v) x (n - 1) (omega (arith, h .0)) (omega (arith, h .0)) (λ y g m. (omega (arith, h .0), λ f. omega arith)))
+            (onward 0 (omega (arith, h .0), λ f. omega (arith, h .0)) (joined-next (n - 1) 0 (omega (arith, h .0)) next-last)
+            (arrived (omega (arith, h .0), λ f. e (sym f)) refl))
+          where
+            beyond : (k : ℕ) → (k ≡ v → ⊥) → (k < v → ⊥) → v < k
+            beyond k g m = omega arith
+
+    keeps : (a b : ℕ) → Off n v a → Off n v b → Path (st .cables) (Off n v) b a
+    keeps a b h g =
+        let d = ℕ-discrete v 0 in
+        path-on (st .cables) (to-meeting d a h) (path-back (st .cables) (to-meeting d b g))
+
+  ten : check10 st ≡ Nothing
+  ten =
+      check10-nothing st .1
+      (λ v h. subst (λ (k : ℕ). (a b : ℕ) → Off k v a → Off k v b → Path (st .cables) (Off k v) b a) (sym parts-are) (keeps v))
+
+  ring-passes : Clear allChecks (ring n)
+  ring-passes = all-clear (ring n) eight nine ten
+
+  -- Its drawing
+
+  orderable : Orderable st
+  orderable = list-orderable (ring n) ring-passes
+
+  width-1 : drawing st .width ≡ 1
+  width-1 = omega (arith, grid-sizes st orderable .width, parts-are, cables-are)
+
+  high : drawing st .height ≡ n - 1
+  high = omega (arith, height-is st orderable, source-cables, analyser-cables, parts-are)
+
+  -- With column pitch 1 and no margin
+
+  module _ (pitch : ℕ) (good : check13 (spacedBy 1 pitch 0 plain .spacing) ≡ Nothing) where
+    abbrev options : Options
+    options = spacedBy 1 pitch 0 plain
+
+    abbrev sheet : Drawing
+    sheet = spaced (options .spacing) (drawing st)
+
+    given : Clear (givenChecks options) (ring n)
+    given = list-decides options (ring n) not-given good ∙ ring-passes
+
+    width-there : sheet .width ≡ 1
+    unfolding spaced columnAt
+    width-there = omega (arith, width-1)
+
+    height-there : sheet .height ≡ (n - 1) * pitch
+    unfolding spaced rowAt
+    height-there = ap (λ (h : ℕ). 0 + h * pitch + 0) high ∙ omega arith
+
+    -- 14 looks at the larger of the two
+    fourteen : check14 sheet ≡ cond (tooLarge (max 1 ((n - 1) * pitch))) (At (max 1 ((n - 1) * pitch))) Nothing
+    fourteen =
+        head-alone st orderable (options .spacing) (passed-13 (options .spacing) good)
+        ∙ ap₂ (λ (w h : ℕ). cond (tooLarge (max w h)) (At (max w h)) Nothing) width-there height-there
+
+    too-high : (place room : ℕ) → check14 sheet ≡ At place → outcome options (ring n) room ≡ sentBack 14 place
+    too-high place room e = refused-outcome options (ring n) room 14 place (refused-14 options (ring n) given place e)
+
+    words-are : length (sheetOf options (ring n)) ≡ 3 * n + 4
+    words-are =
+        omega (
+          arith,
+          ap length (plain-words (options .spacing) (drawing st)),
+          all-words st orderable (options .spacing),
+          bottom-rows st orderable,
+          top-rows st orderable,
+          source-cables,
+          analyser-cables,
+          parts-are,
+          cables-are,
+        )
+
+    fits : (room : ℕ) → check14 sheet ≡ Nothing → 3 * n + 4 ≤ room → outcome options (ring n) room ≡ written (sheetOf options (ring n)) (crossings (drawing st))
+    fits room e h = drawn-outcome options (ring n) (call-clear options (ring n) given e) room (omega (arith, words-are))
+
+    short : (room : ℕ) → check14 sheet ≡ Nothing → room < 3 * n + 4 → outcome options (ring n) room ≡ sentBack 11 (3 * n + 4)
+    short room e h = short-outcome options (ring n) (call-clear options (ring n) given e) room (omega (arith, words-are)) ∙ ap (sentBack 11) words-are
+
 passes : (pitch : ℕ) → 0 < pitch → pitch ≤ mostPitch → check13 (spacedBy 1 pitch 0 plain .spacing) ≡ Nothing
 passes pitch h g =
     spreads-pass (spacedBy 1 pitch 0 plain .spacing)
     (record { column-some = omega arith; column-most = omega arith; row-some = h; row-most = g; margin-most = omega arith })
 
-pub ring-64 : (room : ℕ) → outcome (spacedBy 1 64 0 plain) ring room ≡ sentBack 14 16320
-ring-64 room = let good = passes 64 (omega arith) (omega arith) in too-high 64 good 16320 room (fourteen 64 good)
+-- Of 256 parts it is 255 high, and 16 is the largest pitch that fits. 64 passes 4,095, whatever the length of the output
 
-pub ring-17 : (room : ℕ) → outcome (spacedBy 1 17 0 plain) ring room ≡ sentBack 14 4335
-ring-17 room = let good = passes 17 (omega arith) (omega arith) in too-high 17 good 4335 room (fourteen 17 good)
+six-256 : Clear (upTo 6) (ring 256)
+unfolding station-computing
+six-256 = refl
 
-pub ring-16 : outcome (spacedBy 1 16 0 plain) ring 772 ≡ written (sheetOf (spacedBy 1 16 0 plain) ring) (crossings (drawing (stationOf ring)))
-ring-16 = let good = passes 16 (omega arith) (omega arith) in fits 16 good 772 (fourteen 16 good) (omega arith)
+pub ring-64 : (room : ℕ) → outcome (spacedBy 1 64 0 plain) (ring 256) room ≡ sentBack 14 16320
+ring-64 room = let good = passes 64 (omega arith) (omega arith) in too-high 256 (omega arith) (omega arith) six-256 64 good 16320 room (fourteen 256 (omega arith) (omega arith) six-256 64 good)
 
-pub ring-16-short : outcome (spacedBy 1 16 0 plain) ring 771 ≡ sentBack 11 772
-ring-16-short = let good = passes 16 (omega arith) (omega arith) in short 16 good 771 (fourteen 16 good) (omega arith)
+pub ring-17 : (room : ℕ) → outcome (spacedBy 1 17 0 plain) (ring 256) room ≡ sentBack 14 4335
+ring-17 room = let good = passes 17 (omega arith) (omega arith) in too-high 256 (omega arith) (omega arith) six-256 17 good 4335 room (fourteen 256 (omega arith) (omega arith) six-256 17 good)
+
+pub ring-16 :
+    outcome (spacedBy 1 16 0 plain) (ring 256) 772 ≡ written (sheetOf (spacedBy 1 16 0 plain) (ring 256)) (crossings (drawing (stationOf (ring 256))))
+ring-16 = let good = passes 16 (omega arith) (omega arith) in fits 256 (omega arith) (omega arith) six-256 16 good 772 (fourteen 256 (omega arith) (omega arith) six-256 16 good) (omega arith)
+
+pub ring-16-short : outcome (spacedBy 1 16 0 plain) (ring 256) 771 ≡ sentBack 11 772
+ring-16-short = let good = passes 16 (omega arith) (omega arith) in short 256 (omega arith) (omega arith) six-256 16 good 771 (fourteen 256 (omega arith) (omega arith) six-256 16 good) (omega arith)
+
+-- Of 512 parts it is 511 high, and 8 is the largest pitch that fits (2026-11)
+
+six-512 : Clear (upTo 6) (ring 512)
+unfolding station-computing
+six-512 = refl
+
+pub ring-9 : (room : ℕ) → outcome (spacedBy 1 9 0 plain) (ring 512) room ≡ sentBack 14 4599
+ring-9 room = let good = passes 9 (omega arith) (omega arith) in too-high 512 (omega arith) (omega arith) six-512 9 good 4599 room (fourteen 512 (omega arith) (omega arith) six-512 9 good)
+
+pub ring-8 :
+    outcome (spacedBy 1 8 0 plain) (ring 512) 1540 ≡ written (sheetOf (spacedBy 1 8 0 plain) (ring 512)) (crossings (drawing (stationOf (ring 512))))
+ring-8 = let good = passes 8 (omega arith) (omega arith) in fits 512 (omega arith) (omega arith) six-512 8 good 1540 (fourteen 512 (omega arith) (omega arith) six-512 8 good) (omega arith)
+
+pub ring-8-short : outcome (spacedBy 1 8 0 plain) (ring 512) 1539 ≡ sentBack 11 1540
+ring-8-short = let good = passes 8 (omega arith) (omega arith) in short 512 (omega arith) (omega arith) six-512 8 good 1539 (fourteen 512 (omega arith) (omega arith) six-512 8 good) (omega arith)

@@ -1,6 +1,6 @@
 -- The ten refusals, the boundaries, and stations A to D of document 01, with the lengths of request 2026-01, the crossings of 2026-02,
--- the corners of 2026-04, the prices of 2026-05, the spacing of 2026-06 and the repeated cables of 2026-12, as the definitions give them.
--- Assumes nothing.
+-- the corners of 2026-04, the prices of 2026-05, the spacing of 2026-06, the 512 parts of 2026-11 and the repeated cables of 2026-12, as the
+-- definitions give them. Assumes nothing.
 use Prim.Native.Nat.{ℕ}
 use mathlib.Core.Path.{_≡_, refl}
 use mathlib.Core.Bool.{true, false}
@@ -26,7 +26,7 @@ use Rattle.hookup.specs.Drawing.{drawing}
 use Rattle.hookup.specs.Outcome.{outcome}
 use Rattle.checks.specs.Outcome.{sentBack, written}
 use Rattle.hookup.proofs.Demand3.{sheetOf}
-use Rattle.hookup.proofs.Ring.{ring, ring-64, ring-17, ring-16, ring-16-short}
+use Rattle.hookup.proofs.Ring.{ring, ring-64, ring-17, ring-16, ring-16-short, ring-9, ring-8, ring-8-short}
 use Rattle.hookup.proofs.Computing.{hookup-computing}
 
 abbrev pub square : List ℕ
@@ -89,7 +89,7 @@ drawingOfList list = drawing (stationOf list)
 
 -- ample room, so that only checks 1 to 10 can refuse
 abbrev room : ℕ
-room = 4096
+room = 8192
 
 pub record Table : Type 0 where
   refusal-1 : outcome plain [] room ≡ sentBack 1 0
@@ -105,9 +105,12 @@ pub record Table : Type 0 where
   refusal-10 : outcome plain (0x10030002 ∷ 0x20000002 ∷ 0x30000001 ∷ 0x30001002 ∷ []) room ≡ sentBack 10 1
   -- 2026-01: 'check 11 measures them too: the triangle needs 13'
   refusal-11 : outcome plain triangle 12 ≡ sentBack 11 13
-  -- 'With 256 parts check 4 passes and with 257 it refuses'
+  -- 2026-11: 'Check 4 allows 512', and refuses 513
+  parts-512 : outcome plain (0x12000000 ∷ 0x20000001 ∷ []) room ≡ sentBack 9 1
+  parts-513 : outcome plain (0x12010000 ∷ 0x20000001 ∷ []) room ≡ sentBack 4 513
+  -- 'With 256 parts check 4 passes', and now with 257
   parts-256 : outcome plain (0x11000000 ∷ 0x20000002 ∷ []) room ≡ sentBack 9 1
-  parts-257 : outcome plain (0x11010000 ∷ 0x20000002 ∷ []) room ≡ sentBack 4 257
+  parts-257 : outcome plain (0x11010000 ∷ 0x20000002 ∷ []) room ≡ sentBack 9 1
   -- 'four cables at a part pass check 8'
   four-cables : outcome plain (0x10050004 ∷ 0x20000004 ∷ 0x30000001 ∷ 0x30000002 ∷ 0x30000003 ∷ 0x30000004 ∷ []) room ≡ sentBack 10 0
   -- 2026-01: 'The triangle ends `80000001 80001001 80002004 a0000006`', and an output of 13 takes it
@@ -231,10 +234,14 @@ pub record Table : Type 0 where
   spacing-passes : outcome (spacedBy 64 64 255 plain) [] 0 ≡ sentBack 1 0
   -- 14: 'a coordinate or head field above 4,095 .., its place the largest such number', before 11: the ring of 256 parts is 255 high, and
   -- 16 is the largest row pitch that fits
-  refusal-14 : (room : ℕ) → outcome (spacedBy 1 64 0 plain) ring room ≡ sentBack 14 16320
-  refusal-14-least : (room : ℕ) → outcome (spacedBy 1 17 0 plain) ring room ≡ sentBack 14 4335
-  ring-fits : outcome (spacedBy 1 16 0 plain) ring 772 ≡ written (sheetOf (spacedBy 1 16 0 plain) ring) (crossings (drawingOfList ring))
-  ring-short : outcome (spacedBy 1 16 0 plain) ring 771 ≡ sentBack 11 772
+  refusal-14 : (room : ℕ) → outcome (spacedBy 1 64 0 plain) (ring 256) room ≡ sentBack 14 16320
+  refusal-14-least : (room : ℕ) → outcome (spacedBy 1 17 0 plain) (ring 256) room ≡ sentBack 14 4335
+  ring-fits : outcome (spacedBy 1 16 0 plain) (ring 256) 772 ≡ written (sheetOf (spacedBy 1 16 0 plain) (ring 256)) (crossings (drawingOfList (ring 256)))
+  ring-short : outcome (spacedBy 1 16 0 plain) (ring 256) 771 ≡ sentBack 11 772
+  -- 2026-11: the ring of 512 parts is 511 high, and 8 is the largest row pitch that fits
+  refusal-14-512 : (room : ℕ) → outcome (spacedBy 1 9 0 plain) (ring 512) room ≡ sentBack 14 4599
+  ring-512-fits : outcome (spacedBy 1 8 0 plain) (ring 512) 1540 ≡ written (sheetOf (spacedBy 1 8 0 plain) (ring 512)) (crossings (drawingOfList (ring 512)))
+  ring-512-short : outcome (spacedBy 1 8 0 plain) (ring 512) 1539 ≡ sentBack 11 1540
 
 pub table : Table
 unfolding hookup-computing
@@ -250,6 +257,8 @@ table = record {
   refusal-9 = refl;
   refusal-10 = refl;
   refusal-11 = refl;
+  parts-512 = refl;
+  parts-513 = refl;
   parts-256 = refl;
   parts-257 = refl;
   four-cables = refl;
@@ -317,4 +326,7 @@ table = record {
   refusal-14-least = ring-17;
   ring-fits = ring-16;
   ring-short = ring-16-short;
+  refusal-14-512 = ring-9;
+  ring-512-fits = ring-8;
+  ring-512-short = ring-8-short;
 }

@@ -71,7 +71,7 @@ pub fn wrong_length(list: &[u32]) -> Found
     Found::Nothing
 }
 
-// 4: 'n below 3 or above 256'.
+// 4: 'n below 3 or above' 512 (2026-11).
 pub fn wrong_parts(list: &[u32]) -> Found
     requires { ⌜ 0 < length (now list) ⌝ }
     ensures { λ r. ⌜ r ≡ check4 (now (list .entry)) ⌝ }

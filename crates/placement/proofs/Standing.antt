@@ -1,12 +1,12 @@
 -- One more rank stands: what the code computes is what `step` gives, and its sums fit 16 bits. Assumes nothing.
-use Prim.Native.Nat.{ℕ, _+_, _<_, _≤_}
+use Prim.Native.Nat.{ℕ, _+_, _*_, _<_, _≤_}
 use native.Mathlib.Omega.{arith}
 use native.Mathlib.Numerals.{add-one}
 use mathlib.Core.Path.{_≡_, refl, sym, ap, _∙_}
 use mathlib.Core.List.{List, [], _∷_, _++_, map}
 use lib.ListN.{length, getD, take, replicate, length-map}
 use lib.Seq.{getD-take}
-use Rattle.words.specs.Limits.{mostCables}
+use Rattle.words.specs.Limits.{mostParts, mostCables}
 use Rattle.lists.specs.Stores.{setEach}
 use Rattle.lists.proofs.Kept.{take-replicate}
 use Rattle.order.specs.Graph.{StGraph, size, upper}
@@ -80,17 +80,17 @@ module _ {g : Graph} (v : GraphFits g) {k : ℕ} {c : code-columns.Columns} (s :
   now-small = small (graphIn g) (v .ranked) k
 
   module _ (b : k < g .parts) where
-    pub count-small : c .count ≤ 1021
+    pub count-small : c .count ≤ 4 * mostParts
     unfolding width
     count-small = omega (arith, s .count, now-small .count, v .most)
 
-    pub cable-small : (i : ℕ) → i < g .cables → getD (c .cables) i 0 ≤ 1020
+    pub cable-small : (i : ℕ) → i < g .cables → getD (c .cables) i 0 ≤ 4 * mostParts
     unfolding cable
     cable-small i h =
         let e : getD (c .cables) i 0 ≡ cable (graphIn g) k i = sym (getD-take (g .cables) (c .cables) i 0 h) ∙ ap (λ (l : List ℕ). getD l i 0) (s .cables) in
         omega (arith, now-small .cables i, v .most)
 
-    pub part-small : (i : ℕ) → i < k → getD (c .parts) i 0 ≤ 1020
+    pub part-small : (i : ℕ) → i < k → getD (c .parts) i 0 ≤ 4 * mostParts
     unfolding part
     part-small i h =
         let e : getD (c .parts) i 0 ≡ part (graphIn g) k i = sym (getD-take k (c .parts) i 0 h) ∙ ap (λ (l : List ℕ). getD l i 0) (s .parts) in

@@ -33,7 +33,7 @@ ghost use Rattle.ranking.specs.Ranking.{RankingOf, Checked};
 ghost use Rattle.order.specs.Orientation.{graphOf};
 ghost use Rattle.ranking.specs.Arrays.{graphIn};
 
-// The order, by part and by rank: 'arrays of 256 entries for rank by part, part by rank'.
+// The order, by part and by rank: 'arrays .. for rank by part, part by rank', with an entry for each part that a station may have.
 pub struct Ranking {
     pub rank: [Rank; MOST_PARTS],
     pub part: [Part; MOST_PARTS],

@@ -1,7 +1,7 @@
 -- What the code keeps: the adjacency table, sets of parts as flags, a stack of parts. Assumes nothing.
 use Prim.Native.Nat.{ℕ, zero, suc, _+_, _*_, _-_, _<_, _≤_}
 use mathlib.Core.Path.{_≡_}
-use mathlib.Core.Bool.{Bool, false, cond, not}
+use mathlib.Core.Bool.{Bool, true, false, cond, not}
 use mathlib.Core.List.{List, [], _∷_, _++_, List·Memᴰ}
 use lib.ListN.{length, getD, take, drop, set}
 use Rattle.words.specs.Rooms.{adjacencyPlaces, neighbourPlaces, stackPlaces}
@@ -85,6 +85,12 @@ pub record Stepped (table : List ℕ) (left : List Bool) (stack : List ℕ) (top
         ≡ cond (getD left (getD stack (top - 1) 0) false)
         (neighboursIn table (getD stack (top - 1) 0) ++ fromTop stack (top - 1)) (fromTop stack (top - 1))
     pub flags : left' ≡ cond (getD left (getD stack (top - 1) 0) false) (set left (getD stack (top - 1) 0) false) left
+
+-- A part of a set that a walk through the set divides from t: the walk left one of the two, and reached the other.
+pub record Across (list : List ℕ) (among left : List Bool) (q : ℕ) : Type 0 where
+  pub inside : q < stationOf list .parts
+  pub member : getD among q false ≡ true
+  pub across : getD left q false ≡ not (getD left (stationOf list .analyser) false)
 
 -- A part of a set that has no path to t inside the set, or nothing where the set's parts are joined to each other.
 pub record CutOff (list among : List ℕ) (found : Found) : Type 0 where

@@ -17,7 +17,7 @@ ghost use Rattle.lists.specs.Search.{seek};
 ghost use Rattle.lists.specs.Select.{without};
 ghost use Rattle.station.specs.Station.{stationOf};
 ghost use Rattle.order.specs.Reach.{unreached};
-ghost use Rattle.reachability.specs.Tables.{neighboursIn, TableFits, Adjacent, setOf, Pushed, Steppable, Stepped, CutOff};
+ghost use Rattle.reachability.specs.Tables.{neighboursIn, TableFits, Adjacent, setOf, Pushed, Steppable, Stepped, Across, CutOff};
 
 // The parts that a walk is still to visit. It is lent, since to clear one for each walk would take longer than most walks; what it holds
 // counts for nothing.
@@ -92,9 +92,45 @@ pub fn lowest(set: &[bool; MOST_PARTS], n: usize) -> Found
     Found::Nothing
 }
 
-// Of the parts of a set: one that has no path to t inside the set, or nothing where they are joined to each other.
-fn cut_off_in(list: &[u32], table: &Table, set: [bool; MOST_PARTS], stack: &mut Stack) -> Found
+// A part that a walk through a set divides from t: a neighbour of v where there is one, and else q, which is such a part. The order tries v
+// again only once this part is ranked, and v has at most four neighbours.
+fn beside(
+    list: &[u32],
+    table: &Table,
+    v: Part,
+    set: &[bool; MOST_PARTS],
+    left: &[bool; MOST_PARTS],
+    q: usize,
+) -> usize
     requires { ⌜ Adjacent (now list) (now table) ⌝ }
+    requires { ⌜ v .0 < mostParts ⌝ }
+    requires { ⌜ Across (now list) (now set) (now left) q ⌝ }
+    ensures { λ r. ⌜ Across (now (list .entry)) (now (set .entry)) (now (left .entry)) r ⌝ }
+{
+    let t = fields::analyser(list).0 as usize;
+    let i = v.0 as usize;
+    let mut j = table[DEGREES + i] as usize;
+    while 0 < j {
+        j -= 1;
+        let x = table[MOST_DEGREE * i + j] as usize;
+        if set[x] && left[x] != left[t] {
+            return x;
+        }
+    }
+    q
+}
+
+// Of the parts of a set: one that has no path to t inside the set, beside v where there is one, or nothing where they are joined to each
+// other.
+fn cut_off_in(
+    list: &[u32],
+    table: &Table,
+    set: [bool; MOST_PARTS],
+    v: Part,
+    stack: &mut Stack,
+) -> Found
+    requires { ⌜ Adjacent (now list) (now table) ⌝ }
+    requires { ⌜ v .0 < mostParts ⌝ }
     requires { ⌜ length (now stack) ≡ stackPlaces ⌝ }
     ensures { λ r. ⌜ CutOff (now (list .entry)) (setOf (now (list .entry)) set) r ⌝ }
     ensures { λ r. ⌜ length (now (stack .exit)) ≡ stackPlaces ⌝ }
@@ -106,9 +142,12 @@ fn cut_off_in(list: &[u32], table: &Table, set: [bool; MOST_PARTS], stack: &mut 
     };
     let left = walk_from(list, table, set, Part(p as u16), stack);
     if left[t] {
-        return Found::At(p);
+        return Found::At(beside(list, table, v, &set, &left, p));
     }
-    lowest(&left, n)
+    let Found::At(q) = lowest(&left, n) else {
+        return Found::Nothing;
+    };
+    Found::At(beside(list, table, v, &set, &left, q))
 }
 
 // The same of the parts of a set other than v.
@@ -127,5 +166,5 @@ pub fn cut_off(
 {
     let mut rest = *set;
     rest[v.0 as usize] = false;
-    cut_off_in(list, table, rest, stack)
+    cut_off_in(list, table, rest, v, stack)
 }

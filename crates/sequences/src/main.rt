@@ -13,7 +13,7 @@ use editor::Proposal;
 use editor::Proposed;
 
 // The longest row.
-const ROW: usize = 1024;
+const ROW: usize = 2048;
 
 fn say_proposal(proposal: Proposal) {
     say(b"proposal ");

@@ -9,3 +9,4 @@ pub mod Cables
 pub mod Handshake
 pub mod Passed
 pub mod Simple
+pub mod PartLimit

@@ -31,7 +31,7 @@ check2 list = seek (λ i. misplaced i (getD list i 0)) 0 (length list)
 unfoldable pub check3 : List ℕ → Found
 check3 list = let due = cablesOf (getD list 0 0) + 2 in atWhen (not (eqb (length list) due)) due
 
--- 4: 'n below 3 or above 256', 'n'
+-- 4: 'n below 3 or above' 512, 'n'; 2026-11: 'Check 4 allows 512'
 unfoldable pub check4 : List ℕ → Found
 check4 list = let n = partsOf (getD list 0 0) in atWhen (ltb n leastParts || ltb mostParts n) n
 

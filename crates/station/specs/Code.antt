@@ -14,7 +14,7 @@ use Rattle.station.specs.Checks.{listChecks}
 abbrev pub upTo : ℕ → List Check
 upTo k = filter (λ c. leb (c .number) k) listChecks
 
--- What checks 1 to 8 leave of a station: 3 to 256 parts, two different ends, cables between different parts, at most four at a part. Part
+-- What checks 1 to 8 leave of a station: 3 to 512 parts, two different ends, cables between different parts, at most four at a part. Part
 -- 0, which is read beyond the last line, is a part too, and no cable joins a number that is no part's.
 pub record Wired (st : Station) : Type 0 where
   pub least : leastParts ≤ st .parts

@@ -1,12 +1,12 @@
 -- The limits of document 01, and those that follow from them. Assumes nothing.
 use Prim.Native.Nat.{ℕ, _+_, _*_, _-_, _/_}
 
--- 'A station has 3 to 256 parts'
+-- 'A station has 3 to' 512 'parts' (2026-11: 'Check 4 allows 512')
 abbrev pub leastParts : ℕ
 leastParts = 3
 
 abbrev pub mostParts : ℕ
-mostParts = 256
+mostParts = 512
 
 -- the greatest degree: 'a part with more than four cables' is refused
 abbrev pub mostDegree : ℕ

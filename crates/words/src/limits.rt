@@ -1,9 +1,9 @@
 // The limits of document 01, those that follow from them, and the lengths of the tables that have room for every station within them.
 
-// 'A station has 3 to 256 parts'.
+// 'A station has 3 to' 512 'parts' (2026-11: 'Check 4 allows 512').
 pub const LEAST_PARTS: usize = 3;
 
-pub const MOST_PARTS: usize = 256;
+pub const MOST_PARTS: usize = 512;
 
 // The greatest degree: 'a part with more than four cables' is refused.
 pub const MOST_DEGREE: usize = 4;

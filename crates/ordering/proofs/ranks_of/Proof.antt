@@ -39,6 +39,9 @@ element-copy-out-rank c = search needs
 cast-rank : tie.Need-cast-rank Inv-loop μ-loop
 cast-rank c = omega (arith, number-below _ (c .before .before .before .before .pre .1) (c .before .before .loop .k - 1))
 
+mul-rank-2 : tie.Need-mul-rank-2 Inv-loop μ-loop
+mul-rank-2 c = omega (arith, number-below _ (c .before .before .before .before .pre .1) (c .before .before .loop .k - 1))
+
 array-set-from-rank : tie.Need-array-set-from-rank Inv-loop μ-loop
 array-set-from-rank c = number-below _ (c .before .before .before .before .pre .1) (c .before .before .loop .k - 1)
 
@@ -70,6 +73,7 @@ ranks-of-spec =
     mul-rank
     element-copy-out-rank
     cast-rank
+    mul-rank-2
     array-set-from-rank
     loop-less
     loop-again

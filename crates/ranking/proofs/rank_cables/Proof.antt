@@ -48,6 +48,9 @@ one-part-requires c κs = line-word _ _ (line c)
 cast-a : tie.Need-cast-a Inv-loop μ-loop
 cast-a c = search needs
 
+mul-a : tie.Need-mul-a Inv-loop μ-loop
+mul-a c = omega (arith, one-below _ (c .before .before .before .before .before .before .before .before .pre .0) _ (c .before .one-part .ensures))
+
 array-copy-out-a : tie.Need-array-copy-out-a Inv-loop μ-loop
 array-copy-out-a c = one-below _ (c .before .before .before .before .before .before .before .before .pre .0) _ (c .before .one-part .ensures)
 
@@ -57,17 +60,26 @@ other-part-requires c κs = line-word _ _ (line (c .before .before .before))
 cast-b : tie.Need-cast-b Inv-loop μ-loop
 cast-b c = search needs
 
+mul-b : tie.Need-mul-b Inv-loop μ-loop
+mul-b c = omega (arith, other-below _ (c .before .before .before .before .before .before .before .before .before .before .before .pre .0) _ (c .before .other-part .ensures))
+
 array-copy-out-b : tie.Need-array-copy-out-b Inv-loop μ-loop
 array-copy-out-b c = other-below _ (c .before .before .before .before .before .before .before .before .before .before .before .pre .0) _ (c .before .other-part .ensures)
 
 lower-of-requires : tie.Need-lower-of-requires Inv-loop μ-loop
 lower-of-requires c κs = search needs
 
+mul-lower : tie.Need-mul-lower Inv-loop μ-loop
+mul-lower c = omega (arith, room (c .before .before .before .before .before .before .before))
+
 array-set-from-lower : tie.Need-array-set-from-lower Inv-loop μ-loop
 array-set-from-lower c = room (c .before .before .before .before .before .before .before)
 
 upper-of-requires : tie.Need-upper-of-requires Inv-loop μ-loop
 upper-of-requires c κs = search needs
+
+mul-upper : tie.Need-mul-upper Inv-loop μ-loop
+mul-upper c = omega (arith, room (c .before .before .before .before .before .before .before .before))
 
 array-set-from-upper : tie.Need-array-set-from-upper Inv-loop μ-loop
 array-set-from-upper c = room (c .before .before .before .before .before .before .before .before)
@@ -113,13 +125,17 @@ rank-cables-spec =
     loop-holds
     one-part-requires
     cast-a
+    mul-a
     array-copy-out-a
     other-part-requires
     cast-b
+    mul-b
     array-copy-out-b
     lower-of-requires
+    mul-lower
     array-set-from-lower
     upper-of-requires
+    mul-upper
     array-set-from-upper
     add-i
     loop-less

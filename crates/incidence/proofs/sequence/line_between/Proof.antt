@@ -20,8 +20,14 @@ abbrev μ-loop : tie.MeasureT-loop
 loop-holds : tie.Need-loop-holds Inv-loop μ-loop
 loop-holds c = seeking-start _ _
 
+mul-joins : tie.Need-mul-joins Inv-loop μ-loop
+mul-joins c = omega arith
+
 array-copy-out-joins : tie.Need-array-copy-out-joins Inv-loop μ-loop
 array-copy-out-joins c = omega arith
+
+mul-joins-2 : tie.Need-mul-joins-2 Inv-loop μ-loop
+mul-joins-2 c = omega arith
 
 array-copy-out-joins-2 : tie.Need-array-copy-out-joins-2 Inv-loop μ-loop
 array-copy-out-joins-2 c = omega arith
@@ -64,7 +70,9 @@ line-between-spec =
     Inv-loop
     μ-loop
     loop-holds
+    mul-joins
     array-copy-out-joins
+    mul-joins-2
     array-copy-out-joins-2
     joins-requires
     returns

@@ -28,17 +28,23 @@ no-course-requires c κs = tt
 loop-holds : tie.Need-loop-holds Inv-loop μ-loop
 loop-holds c = (omega arith, length-replicate mostCables (c .no-course .result), λ j h. absurd (omega arith))
 
-array-copy-out-t17 : tie.Need-array-copy-out-t17 Inv-loop μ-loop
-array-copy-out-t17 c = omega arith
+mul-t15 : tie.Need-mul-t15 Inv-loop μ-loop
+mul-t15 c = omega arith
 
-array-copy-out-t20 : tie.Need-array-copy-out-t20 Inv-loop μ-loop
-array-copy-out-t20 c = omega arith
+array-copy-out-t18 : tie.Need-array-copy-out-t18 Inv-loop μ-loop
+array-copy-out-t18 c = omega arith
 
-mul-t21 : tie.Need-mul-t21 Inv-loop μ-loop
-mul-t21 c = omega arith
+mul-t19 : tie.Need-mul-t19 Inv-loop μ-loop
+mul-t19 c = omega arith
 
-array-read-t24 : tie.Need-array-read-t24 Inv-loop μ-loop
-array-read-t24 c = omega arith
+array-copy-out-t22 : tie.Need-array-copy-out-t22 Inv-loop μ-loop
+array-copy-out-t22 c = omega arith
+
+mul-t23 : tie.Need-mul-t23 Inv-loop μ-loop
+mul-t23 c = omega arith
+
+array-read-t26 : tie.Need-array-read-t26 Inv-loop μ-loop
+array-read-t26 c = omega arith
 
 array-share-prefix-parts : tie.Need-array-share-prefix-parts Inv-loop μ-loop
 array-share-prefix-parts c = let s = c .before .before .before .before .before .before .before .before .before in parts-lent (s .pre .0) (s .args .columns) (s .good .1 .0) .within
@@ -86,10 +92,12 @@ courses-of-spec =
     μ-loop
     no-course-requires
     loop-holds
-    array-copy-out-t17
-    array-copy-out-t20
-    mul-t21
-    array-read-t24
+    mul-t15
+    array-copy-out-t18
+    mul-t19
+    array-copy-out-t22
+    mul-t23
+    array-read-t26
     array-share-prefix-parts
     slice-aggregate-course-of
     course-of-requires

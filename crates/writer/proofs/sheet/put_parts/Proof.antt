@@ -26,6 +26,9 @@ loop-holds : tie.Need-loop-holds Inv-loop μ-loop
 unfolding partsSection
 loop-holds c = (omega arith, storing-start _ _ _)
 
+mul-part-word : tie.Need-mul-part-word Inv-loop μ-loop
+mul-part-word c = omega (arith, c .before .before .before .before .pre .0 .fits .most)
+
 element-copy-out-part-word : tie.Need-element-copy-out-part-word Inv-loop μ-loop
 element-copy-out-part-word c = omega (arith, c .before .before .before .before .pre .0 .fits .most)
 
@@ -78,6 +81,7 @@ put-parts-spec =
     Inv-loop
     μ-loop
     loop-holds
+    mul-part-word
     element-copy-out-part-word
     part-word-requires
     put-requires
