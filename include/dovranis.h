@@ -55,7 +55,8 @@
  *   7       none: the number is empty
  *   8       a part with more than four cables                                             lowest such part
  *   9       a part that part 0 doesn't reach                                              lowest such part
- *   10      a part whose removal leaves two others without a path                         lowest such part
+ *   10      a part whose removal leaves some other part that reaches neither source nor
+ *           analyser, whichever of them remain                                            lowest such part
  *   11      the output is shorter than the sheet, with its bill where it has one          words of the sheet
  *   12      a discount above 10,000                                                       the discount
  *   13      a pitch of 0 or above 64, or a margin above 255; the first of these faults    0 the column pitch,
@@ -63,6 +64,9 @@
  *   14      a coordinate or a head field above 4,095                                      largest such number
  *   15      a proposal whose version is not m                                             m
  *   16      no word is left in the row: row_count is m + 2                                row_count
+ *
+ * Of the lists that pass 1 to 9, check 10 refuses exactly those whose parts have no st-ordering from source to analyser
+ * (`passes-iff` in crates/order/proofs/SeparatingParts.antt). A chain of parts between the two passes.
  *
  *   call                          checks, in this sequence
  *   dovranis_draw                         1 to 10,     11
@@ -105,8 +109,8 @@
  * - The rows and the numbers of a call lie apart: no two of them overlap.
  * - Until the call returns nothing else writes what is lent as const, and nothing else reads or writes the rest. Before
  *   the call the output and the numbers may hold anything.
- * - There are 128 KiB of stack. The proofs do not bound the stack; the tests call with so much. On stations of up to 512
- *   parts the calls that draw were seen to take 60,072 bytes of it, and the editor's 2,216.
+ * - There are 128 KiB of stack. The proofs do not bound the stack; the tests call with so much. On stations of up to
+ *   512 parts the calls that draw were seen to take 60,504 bytes of it, and the editor's 2,216.
  */
 #ifndef DOVRANIS_H
 #define DOVRANIS_H

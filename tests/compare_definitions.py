@@ -5,10 +5,11 @@
                                                             58 parts, the shortest that check 14 can refuse (default 300, 1, 4, 1)
   compare_definitions.py --editor [COUNT [SEED]]            COUNT operations of the editor in random runs (default 400, 1)
 
-Of the lists that are drawn some third has repeated cables. Every list is stated with a length of output, a third of them with a
-discount and half of them with a spacing, as an equation of `outcome`, the definition at the top, with all words, counts, numbers
-and places that reference.py gives, and proved by computation in a copy of the crates. An operation of the editor is stated as an
-equation of `proposed`, or of `effect` with the row that it leaves. It is no part of the gate."""
+Of the lists that are drawn some third has repeated cables, and some fifth a cut part; a fifteenth of all is made to be refused by
+check 10. Every list is stated with a length of output, a third of them with a discount and half of them with a spacing, as an
+equation of `outcome`, the definition at the top, with all words, counts, numbers and places that reference.py gives, and proved by
+computation in a copy of the crates. An operation of the editor is stated as an equation of `proposed`, or of `effect` with the row
+that it leaves. It is no part of the gate."""
 import os
 import random
 import re
@@ -43,6 +44,14 @@ def few(rng):
     while True:
         words = lists.any_list(rng, 3, 9)
         if len(words) < 2 or not 256 < words[0] >> 16 & 0xfff <= lists.MOST_PARTS:
+            return words
+
+
+def separated(rng):
+    """A list of at most 9 parts that check 10 refuses."""
+    while True:
+        words = lists.cut(rng)
+        if words[0] >> 16 & 0xfff <= 9:
             return words
 
 
@@ -151,7 +160,7 @@ def main(a):
     large = int(a[2]) if len(a) > 2 else 4
     rings = int(a[3]) if len(a) > 3 else 1
     rng = random.Random(seed)
-    cases = [few(rng) if k % 3 else lists.drawn(rng, 3, 9) for k in range(count)]
+    cases = [separated(rng) if k % 15 == 14 else few(rng) if k % 3 else lists.drawn(rng, 3, 9) for k in range(count)]
     cases += [lists.drawn(rng, 18, 21) for _ in range(large)]
     discounts = [lists.discount(rng) if rng.randrange(3) == 0 else None for _ in range(count)]
     discounts += [lists.good_discount(rng) if k % 2 else None for k in range(large)]
@@ -174,8 +183,9 @@ def main(a):
         text += ['', 'case-%d : outcome %s %s %d ≡ %s' % (k, options(*given[k]), numbers(words), room, right), 'unfolding ' + opened, 'case-%d = refl' % k]
     # what only the code's contracts cite goes with the code
     wrong, output = checked('hookup', text, struct_given, ['Answer'])
-    print('%d lists, %d with repeated cables, %d with a discount, %d with a spacing (%s)' % (
-        len(cases), sum(map(lists.has_repeats, cases)), *(sum(k is not None for k in some) for some in (discounts, spacings)),
+    cut = [words for words in cases if reference.fault(words) is None and lists.has_cut_part(words)]
+    print('%d lists, %d with repeated cables, %d drawn with a cut part, %d with a discount, %d with a spacing (%s)' % (
+        len(cases), sum(map(lists.has_repeats, cases)), len(cut), *(sum(k is not None for k in some) for some in (discounts, spacings)),
         ', '.join('%d %s' % (v, 'drawn' if c == 0 else 'refused by %d' % c) for c, v in sorted(tally.items()))))
     return told(wrong, output, lambda k: '%s %s' % (options(*given[k]), ' '.join('%08x' % w for w in cases[k])))
 

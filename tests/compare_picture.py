@@ -313,7 +313,7 @@ WORKED = [
 
 def stations(count, rng):
     yield from WORKED
-    for name, (text, _, _, _) in reference.REPEATS.items():
+    for name, (text, *_) in [*reference.REPEATS.items(), *reference.CHAINS.items()]:
         yield name, reference.hexes(text)
     for name, words in lists.boundaries():
         if name.startswith('sheet') and ('cables at s' in name or '256 parts' in name or '512 parts' in name):
@@ -330,7 +330,7 @@ def complaints(folder):
     """Problems with what the program says of input that it can't draw, and with words behind the total."""
     text, sheet = list_text(reference.TRIANGLE), ['%08x' % w for w in reference.TRIANGLE_SHEET]
     cases = [
-        ('cut part', text, ['refused 10 1'], 'part 1 is a cut part'),
+        ('separating part', text, ['refused 10 1'], 'without part 1 some other part reaches neither source nor analyser'),
         ('no sheet', text, ['broken file'], 'broken file'),
         ('empty sheet', text, [], 'ends where a word of kind 4'),
         ('short sheet', text, sheet[:8], 'ends where a word of kind 7'),

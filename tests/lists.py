@@ -150,6 +150,57 @@ KINDS = (('ladder', lambda rng, n: ladder(n)), ('grid', lambda rng, n: near_squa
          ('ring', lambda rng, n: ring(n)), ('four-regular', four_regular), ('random', of_ears))
 
 
+# Stations that are drawn with their cut parts, as (n, set of sorted pairs), where s is part 0 and t the last part: each cut
+# part has s on one side and t on the other.
+
+def chain(n):
+    """Each part joined to the next."""
+    return n, {(p, p + 1) for p in range(n - 1)}
+
+
+def with_chains(n, cables, k):
+    """The station with a chain of k parts before its part 0 and one behind its last part."""
+    rows = {(a + k, b + k) for a, b in cables}
+    return n + 2 * k, rows | {(p, p + 1) for p in (*range(k), *range(n + k - 1, n + 2 * k - 1))}
+
+
+def ladder_with_chains(n):
+    """Of n parts, 8 or more; each chain has a quarter of them."""
+    return with_chains(*ladder(n - n // 4 * 2), n // 4)
+
+
+def triangles(n):
+    """Triangles in a row, each sharing a part with the next; where n is even a cable leads to the last part."""
+    return n, chain(n)[1] | {(p, p + 2) for p in range(0, n - 2, 2)}
+
+
+def rings(n, size):
+    """Rings of so many parts in a row, with a cable from each to the next; size divides n."""
+    return n, chain(n)[1] | {(p, p + size - 1) for p in range(0, n, size)}
+
+
+CHAINS = (('chain', chain), ('ladder with chains', ladder_with_chains))
+
+
+# Stations with one cut part, the last.
+
+def two_blocks(rng, one, other):
+    """A station of so many parts, from 0 on, and behind it one of so many, with four cables at each part; and the last part,
+    put into a cable of each."""
+    cables, base, n = set(), 0, one + other
+    for size in (one, other):
+        more = sorted((a + base, b + base) for a, b in four_regular(rng, size)[1])
+        a, b = more.pop()
+        cables |= set(more) | {(a, n), (b, n)}
+        base += size
+    return n + 1, cables
+
+
+def hung_on_last(n):
+    """A ring of all parts but n - 2, which hangs on part n - 1; each up to n - 5 is also joined to the next but one."""
+    return n, chain(n - 2)[1] | {(0, n - 1), (n - 3, n - 1), (n - 2, n - 1)} | {(p, p + 2) for p in range(n - 4)}
+
+
 def rails(n):
     """A list of n parts, an even number, 16 or more, of which many could wait long for their rank. A path from s ends at
     t. Its second part is a rail of a ladder, and the other rail has its ranks first, so that each part of the path cuts
@@ -187,6 +238,11 @@ def pair_ladder(high):
     """A ladder with two cables for each rung."""
     n, cables = grid(2, high)
     return n, sorted(list(cables) + [(p, p + 1) for p in range(0, n, 2)])
+
+
+def triple_chain(n):
+    """A chain with every other cable there three times."""
+    return n, sorted(list(chain(n)[1]) + 2 * [(p, p + 1) for p in range(0, n - 1, 2)])
 
 
 def repeated(rng, n, cables):
@@ -276,7 +332,7 @@ def some_graph(rng, n):
 
 
 def some_station(rng, n):
-    """A station as (n, row of sorted pairs); a third has repeated cables."""
+    """A station without a cut part as (n, row of sorted pairs); a third has repeated cables."""
     if rng.random() < 0.05:
         makers = [lambda: doubled(*ring(n)), lambda: pair_chain(n)]
         if n >= 4 and n % 2 == 0:
@@ -284,6 +340,28 @@ def some_station(rng, n):
         return rng.choice(makers)()
     n, cables = some_graph(rng, n)
     return repeated(rng, n, cables) if rng.random() < 0.4 else (n, sorted(cables))
+
+
+def in_row(rng, n):
+    """A station of n parts, 2 or more, as (n, row of sorted pairs, s, t): blocks in a row, each sharing a part with the
+    next. s is in the first and t in the last, and neither is shared, so that it is drawn. A block of two parts is one
+    cable or more, and a row of such blocks a chain."""
+    cables, count, made, end = [], n * [0], 1, 0        # end: the part that the next block is put on
+    links, times, longest = rng.choice([0, 0.5, 0.5, 1]), rng.choice([1, 1, 2, 3]), rng.choice([3, 5, n])
+    while made < n:
+        left, free, ways = n - made, 4 - count[end], []
+        if left > 1 and rng.random() >= links:
+            size, block = some_station(rng, rng.randint(3, min(left + 1, max(3, longest))))
+            its = degrees(size, block)
+            ways = [(a, b) for a in range(size) if its[a] <= free
+                    for b in range(size) if b != a and (its[b] < 4 or size > left)]
+        if not ways:
+            size, block, ways = 2, min(rng.choice([1, times]), free) * [(0, 1)], [(0, 1)]
+        a, b = rng.choice(ways)
+        place = [end if q == a else made + q - (q > a) for q in range(size)]
+        cables += [pair(place[p], place[q]) for p, q in block]
+        count, made, end = degrees(n, cables), made + size - 1, place[b]
+    return n, sorted(cables), 0, end
 
 
 def listed(rng, n, cables, s, t, shuffled=True):
@@ -306,9 +384,12 @@ def reversed_list(n, cables):
 
 def drawn(rng, n_min=3, n_max=40):
     """A list that passes checks 1 to 10, with n_min to n_max parts; a third has
-    repeated cables. The counts of cables at s and t, and whether a cable joins s to
-    t, are chosen first; where no station of that shape turns up, any station will do."""
+    repeated cables. A quarter has its blocks in a row. Of the others the counts of
+    cables at s and t, and whether a cable joins s to t, are chosen first; where no
+    station of that shape turns up, any station will do."""
     n = rng.randint(n_min, n_max)
+    if rng.random() < 0.25:
+        return listed(rng, *in_row(rng, n), rng.random() < 0.85)
     at_s, at_t = rng.choice((2, 3, 4)), rng.choice((2, 3, 4))
     joined = rng.random() < 0.4
     for _ in range(25):
@@ -342,11 +423,27 @@ def paired(rng, n_min=3, n_max=40):
             return words
 
 
+def cut_parts(n, cables):
+    """The cut parts of a station, of which all parts are joined."""
+    return [p for p in range(n) if groups(n, cables, p) > 1]
+
+
+def has_cut_part(words):
+    """Whether a list that passes checks 1 to 9 has a cut part."""
+    return bool(cut_parts(words[0] >> 16 & 0xfff, [(w >> 12 & 0xfff, w & 0xfff) for w in words[2:]]))
+
+
 def large(rng):
-    """A list of 256 to 512 parts: mostly of 256, 257, 511 or 512. Some stations take an even
-    number, or one that 4 or 16 divides, and have as many."""
+    """A list of 256 to 512 parts that passes checks 1 to 10: mostly of 256, 257, 511 or 512. Some
+    stations take an even number, or one that 4 or 16 divides, and have as many. A quarter has its
+    blocks in a row."""
     n = rng.choice([256, 256, 257, 511, 512, 512, rng.randint(257, MOST_PARTS)])
     half = n // 2
+    if rng.random() < 0.25:
+        n, cables, s, t = rng.choice([
+            lambda: (*chain(n), 0, n - 1), lambda: (*ladder_with_chains(n), 0, n - 1), lambda: (*triangles(n), 0, n - 1),
+            lambda: (*doubled(*chain(n)), 0, n - 1), lambda: (*triple_chain(n), 0, n - 1), lambda: in_row(rng, n)])()
+        return listed(rng, n, cables, s, t, rng.random() < 0.7)
     n, cables = rng.choice([
         lambda: ring(n), lambda: ladder(n), lambda: near_square(n), lambda: grid(4, n // 4),
         lambda: torus(16, n // 16), lambda: second_neighbours(n),
@@ -506,34 +603,44 @@ def apart(rng):
 
 
 def cut(rng):
-    """Check 10: two stations with one part, one cable or a pair between them, or a
-    part that hangs on one cable or a pair; at most four cables at a part."""
+    """Check 10: blocks in a row, with s, t or both elsewhere; or with a pendant part, a
+    pendant chain or a pendant row of blocks, or two of these, on s, on t or on any part.
+    At most four cables at a part."""
     while True:
-        n, cables = some_station(rng, rng.randint(3, 12))
-        k, more = some_station(rng, rng.randint(3, 8))
-        a, b = rng.randrange(n), rng.randrange(k)
-        way, times = rng.randrange(3), rng.choice([1, 1, 2])
+        n, cables, s, t = in_row(rng, rng.randint(3, 10))
+        way = rng.randrange(6)
         if way == 0:
-            place = [n + q for q in range(k)]
-            place[b] = a
-            place = [q if q <= n + b else q - 1 for q in place]
+            s, t = rng.sample(range(n), 2)
+        elif way == 1:
+            s = rng.randrange(n)
+        elif way == 2:
+            t = rng.randrange(n)
+        for _ in range(rng.choice([1, 1, 2]) if way > 2 else 0):
+            on = rng.choice([s, t, rng.randrange(n)])
+            k, more, _, _ = in_row(rng, rng.choice([2, 2, 3, rng.randint(3, 6)]))
+            place = [on, *range(n, n + k - 1)]
             cables = cables + [pair(place[p], place[q]) for p, q in more]
             n += k - 1
-        elif way == 1:
-            cables = cables + [(p + n, q + n) for p, q in more] + times * [(a, n + b)]
-            n += k
-        else:
-            for _ in range(rng.choice([1, 2])):
-                cables = cables + times * [(a, n)]
-                a = n
-                n += 1
-        if max(degrees(n, cables)) <= 4:
-            s, t = rng.sample(range(n), 2)
+        if s != t and max(degrees(n, cables)) <= 4 and cut_parts(n, cables + [(s, t)]):
             return listed(rng, n, cables, s, t)
 
 
+def groups(n, cables, gone=None):
+    """Into how many groups the parts fall, without one of them and its cables."""
+    group = list(range(n))
+    for _ in range(n):
+        before = list(group)
+        for a, b in cables:
+            if gone not in (a, b):
+                group[a] = group[b] = min(group[a], group[b])
+        if group == before:
+            break
+    return len({group[p] for p in range(n) if p != gone})
+
+
 def might_pass(words):
-    """Whether the list passes checks 1 to 10, tested without the reference."""
+    """Whether the list passes checks 1 to 10, tested without the reference. Check 10
+    refuses a part that is a cut part once a cable more joins s and t."""
     if len(words) < 2 or words[0] >> 28 != 1 or words[1] >> 24 != 0x20:
         return False
     if any(w >> 24 != 0x30 for w in words[2:]) or len(words) != (words[0] & 0xffff) + 2:
@@ -543,20 +650,7 @@ def might_pass(words):
     if not 3 <= n <= MOST_PARTS or any(a >= n or b >= n or a == b for a, b in rows):
         return False
     cables = rows[1:]
-    if max(degrees(n, cables)) > 4:
-        return False
-    for gone in range(-1, n):
-        group = list(range(n))
-        for _ in range(n):
-            before = list(group)
-            for a, b in cables:
-                if gone not in (a, b):
-                    group[a] = group[b] = min(group[a], group[b])
-            if group == before:
-                break
-        if len({group[p] for p in range(n) if p != gone}) > 1:
-            return False
-    return True
+    return max(degrees(n, cables)) <= 4 and groups(n, cables) == 1 and not cut_parts(n, rows)
 
 
 def refused(rng):
@@ -773,31 +867,14 @@ def boundaries():
     no(9, 256, 'parts 0 to 255 of 512 in one ring and the others in another',
        build(512, 0, 256, sorted(ring(256)[1]) + [(a + 256, b + 256) for a, b in sorted(ring(256)[1])]))
 
-    # 10
-    no(10, 1, 'path', build(3, 0, 2, [(0, 1), (1, 2)]))
-    no(10, 0, 'path with part 0 within', build(3, 0, 2, [(0, 1), (0, 2)]))
-    no(10, 2, 'path with part 2 within', build(3, 0, 2, [(0, 2), (1, 2)]))
-    for s, t in ((2, 0), (0, 2), (0, 1), (0, 4)):
-        no(10, 2, 'two triangles on part 2, s %d, t %d' % (s, t),
-           build(5, s, t, [(0, 1), (1, 2), (0, 2), (2, 3), (3, 4), (2, 4)]))
-    no(10, 2, 'two triangles with a cable between',
-       build(6, 0, 5, three + [(3, 4), (4, 5), (3, 5), (2, 3)]))
-    no(10, 1, 'path of pairs', build(3, 0, 2, [(0, 1), (0, 1), (1, 2), (1, 2)]))
-    no(10, 0, 'path of pairs with part 0 within', build(3, 1, 2, [(0, 1), (2, 0), (0, 2), (1, 0)]))
-    no(10, 1, 'path of three cables and one', build(3, 0, 2, [(0, 1), (0, 1), (0, 1), (1, 2)]))
-    no(10, 1, 's has two cables, both to part 1', build(4, 0, 3, [(0, 1), (1, 0), (1, 2), (1, 3), (2, 3)]))
-    no(10, 2, 't has two cables, both from part 2', build(4, 0, 3, [(0, 1), (0, 2), (1, 2), (2, 3), (3, 2)]))
-    no(10, 2, 'two triangles with a pair between',
-       build(6, 0, 5, three + [(3, 4), (4, 5), (3, 5), (2, 3), (3, 2)]))
-    no(10, 1, 'path of 40 pairs', build(41, 0, 40, 2 * [(p, p + 1) for p in range(40)]))
-    for n in (256, 257, 512):
-        no(10, 1, 'path of %d' % n, build(n, 0, n - 1, [(p, p + 1) for p in range(n - 1)]))
-        no(10, n - 2, 'part %d of %d on one cable' % (n - 1, n),
-           build(n, 0, n - 1, sorted(ring(n - 1)[1]) + [(n - 2, n - 1)]))
-        no(10, n - 1, 'only part %d cuts' % (n - 1),
-           build(n, 0, 1, sorted({pair(p, (p + 1) % (n - 2)) for p in range(n - 2)} - {(0, n - 3)}
-                                 | {(0, n - 1), (n - 3, n - 1), (n - 2, n - 1)}
-                                 | {(p, p + 2) for p in range(n - 4)})))
+    # Each part reaches s or t, but not part 0.
+    for s, t in ((0, 3), (1, 2), (3, 0), (3, 1)):
+        no(9, 2, 'two cables apart, s %d, t %d' % (s, t), build(4, s, t, [(0, 1), (2, 3)]))
+    apart_by_256 = [(p, p + 1) for p in range(511) if p != 255]
+    for s, t in ((0, 511), (300, 255)):
+        no(9, 256, 'two chains of 256 apart, s %d, t %d' % (s, t), build(512, s, t, apart_by_256))
+
+    # 10: in `chains`.
 
     # Several faults: the lower number goes first wherever its word stands.
     no(2, 4, '2 before 3 to 6', [head(2, 9), ends(9, 9), cable(1, 1), cable(1, 1), 0x40000000])
@@ -877,12 +954,12 @@ def boundaries():
     for n in (9, 256, 257, 512):
         put('sheet', '%d parts: a cable of %d steps' % (n, 3 * n - 5),
             build(n, 0, n - 1, sorted(long_cable(n)[1])))
-    return out + repeats()
+    return out + repeats() + chains()
 
 
 # Stations with repeated cables: cables at s, at t; how often the two lowest ranks are joined, the two highest, s
-# and t; parts; cables. s is part 0 and t the last, and ranks are as the numbers. A pair at s or t takes a third
-# cable there, or its far end would be a cut part.
+# and t; parts; cables. s is part 0 and t the last, and ranks are as the numbers. None has a cut part: a pair at s or t
+# takes a third cable there.
 JOINED = [(a + c, b + c, a, b, c, 3, a * [(0, 1)] + b * [(1, 2)] + c * [(0, 2)])
           for a in (1, 2, 3) for b in (1, 2, 3) for c in (1, 2, 3)
           if max(a + b, b + c, a + c) <= 4 and a + b + c > 3] + [
@@ -902,6 +979,25 @@ JOINED = [(a + c, b + c, a, b, c, 3, a * [(0, 1)] + b * [(1, 2)] + c * [(0, 2)])
     (4, 4, 2, 2, 2, 4, 2 * [(0, 1), (1, 2), (2, 3), (0, 3)]),
     (4, 4, 3, 3, 1, 4, [(0, 1), (0, 1), (0, 1), (1, 2), (0, 3), (2, 3), (2, 3), (2, 3)]),
     (4, 4, 1, 1, 0, 6, [(0, 1), (0, 2), (0, 3), (0, 4), (2, 3), (3, 2), (1, 5), (2, 5), (3, 5), (4, 5)]),
+]
+
+# The same with cut parts, where s or t, or both, may have one cable.
+JOINED_IN_ROW = [(a, b, a, b, 0, 3, a * [(0, 1)] + b * [(1, 2)]) for a in (1, 2, 3) for b in (1, 2, 3) if a + b <= 4] + [
+    (1, 1, 1, 1, 0, 4, [(0, 1), (1, 2), (1, 2), (2, 3)]),
+    (1, 1, 1, 1, 0, 4, [(0, 1), (1, 2), (1, 2), (1, 2), (2, 3)]),
+    (2, 2, 2, 2, 0, 4, 2 * [(0, 1), (1, 2), (2, 3)]),
+    (3, 3, 3, 3, 0, 4, 3 * [(0, 1), (2, 3)] + [(1, 2)]),
+    (1, 2, 1, 1, 0, 4, [(0, 1), (1, 2), (1, 3), (2, 3)]),
+    (2, 1, 1, 1, 0, 4, [(0, 1), (0, 2), (1, 2), (2, 3)]),
+    (2, 2, 2, 1, 0, 4, [(0, 1), (0, 1), (1, 2), (1, 3), (2, 3)]),
+    (2, 2, 1, 2, 0, 4, [(0, 1), (0, 2), (1, 2), (2, 3), (2, 3)]),
+    (1, 3, 1, 1, 0, 5, [(0, 1), (1, 2), (1, 3), (1, 4), (2, 4), (3, 4)]),
+    (3, 1, 1, 1, 0, 5, [(0, 1), (0, 2), (0, 3), (1, 3), (2, 3), (3, 4)]),
+    (1, 4, 1, 2, 0, 5, [(0, 1), (1, 2), (1, 3), (1, 4), (2, 4), (3, 4), (3, 4)]),
+    (4, 1, 2, 1, 0, 5, [(0, 1), (0, 1), (0, 2), (0, 3), (1, 3), (2, 3), (3, 4)]),
+    (1, 4, 1, 1, 0, 7, [(0, 1), (1, 2), (1, 3), (1, 4), (2, 5), (2, 6), (3, 6), (4, 6), (5, 6)]),
+    (4, 1, 1, 1, 0, 7, [(0, 1), (0, 2), (0, 3), (0, 4), (1, 4), (2, 5), (3, 5), (4, 5), (5, 6)]),
+    (4, 4, 2, 2, 0, 7, 2 * [(0, 1), (0, 2), (4, 6), (5, 6)] + [(1, 3), (2, 3), (3, 4), (3, 5)]),
 ]
 
 # A part, the far ends of its outgoing cables by line, the other cables of the station, parts: with equal far ends at
@@ -933,7 +1029,7 @@ def repeats():
     def some_turned(cables):
         return [c[::-1] if k % 2 else c for k, c in enumerate(cables)]
 
-    for at_s, at_t, low, high, through, n, cables in JOINED:
+    for at_s, at_t, low, high, through, n, cables in JOINED + JOINED_IN_ROW:
         what = ('%d parts, %d cables: %d cables at s; %d at t; '
                 'the two lowest ranks joined %d times, the two highest %d, s and t %d')
         what %= n, len(cables), at_s, at_t, low, high, through
@@ -984,6 +1080,137 @@ def repeats():
                                   ('random, with repeated cables', repeated(rng, *(ears if n == 256 else of_ears)(rng, n)))):
             put('%d parts: %s' % (n, what), build(n, 0, n - 1, cables))
             put('%d parts: %s shuffled' % (n, what), listed(rng, n, cables, *rng.sample(range(n), 2)))
+    return out
+
+
+# Stations with cut parts and two pairs of ends or more: what it is, parts, cables, and what is due for s and t: the place
+# of refusal 10, or None where it is drawn.
+RING_OF_4 = [(0, 1), (1, 2), (2, 3), (0, 3)]
+ENDS_OF = [
+    ('chain of 3', 3, [(0, 1), (1, 2)],
+     {(0, 2): None, (2, 0): None, (0, 1): 1, (1, 0): 1, (1, 2): 1, (2, 1): 1}),
+    ('chain of 3, part 0 within', 3, [(0, 1), (0, 2)],
+     {(1, 2): None, (2, 1): None, (0, 2): 0, (2, 0): 0, (0, 1): 0, (1, 0): 0}),
+    ('chain of 3, part 2 within', 3, [(0, 2), (1, 2)],
+     {(0, 1): None, (1, 0): None, (0, 2): 2, (2, 0): 2, (1, 2): 2, (2, 1): 2}),
+    ('chain of 4', 4, [(0, 1), (1, 2), (2, 3)],
+     {(0, 3): None, (3, 0): None, (0, 2): 2, (2, 0): 2, (0, 1): 1, (1, 0): 1, (1, 2): 1, (2, 1): 1, (1, 3): 1, (3, 1): 1,
+      (2, 3): 1, (3, 2): 1}),
+    ('chain of 3 pairs', 4, 2 * [(0, 1), (1, 2), (2, 3)], {(0, 3): None, (3, 0): None, (0, 2): 2, (1, 3): 1, (1, 2): 1, (2, 1): 1}),
+    ('two triangles on part 2', 5, [(0, 1), (1, 2), (0, 2), (2, 3), (3, 4), (2, 4)],
+     {(0, 4): None, (3, 1): None, (2, 0): 2, (0, 2): 2, (0, 1): 2, (4, 3): 2, (2, 4): 2, (4, 2): 2}),
+    ('two triangles with a cable between', 6, [(0, 1), (1, 2), (0, 2), (3, 4), (4, 5), (3, 5), (2, 3)],
+     {(0, 5): None, (4, 1): None, (0, 3): 3, (3, 0): 3, (0, 2): 2, (2, 3): 2, (2, 5): 2, (3, 5): 2, (0, 1): 2}),
+    ('two triangles with a pair between', 6, [(0, 1), (1, 2), (0, 2), (3, 4), (4, 5), (3, 5), (2, 3), (3, 2)],
+     {(0, 5): None, (4, 1): None, (0, 3): 3, (2, 5): 2, (3, 4): 2}),
+    ('three triangles in a row', 7, sorted(triangles(7)[1]),
+     {(0, 6): None, (5, 1): None, (3, 6): 2, (0, 3): 4, (2, 4): 2, (2, 6): 2, (0, 4): 4, (4, 0): 4, (4, 2): 2, (0, 1): 2, (5, 6): 2}),
+    ('a ring of 4 and a triangle on part 3', 6, RING_OF_4 + [(3, 4), (4, 5), (3, 5)],
+     {(0, 4): None, (5, 1): None, (4, 2): None, (0, 2): 3, (0, 3): 3, (3, 0): 3, (3, 4): 3, (4, 5): 3}),
+    ('a ring of 4, a cable and a triangle', 7, RING_OF_4 + [(3, 4), (4, 5), (4, 6), (5, 6)],
+     {(0, 5): None, (6, 1): None, (0, 2): 3, (0, 3): 3, (0, 4): 4, (4, 0): 4, (3, 4): 3, (3, 5): 3, (4, 5): 3, (5, 6): 3}),
+    ('star, part 0 in its middle', 4, [(0, 1), (0, 2), (0, 3)], {(1, 2): 0, (3, 2): 0, (0, 1): 0, (3, 0): 0}),
+    ('star, part 4 in its middle', 5, [(0, 4), (1, 4), (2, 4), (3, 4)], {(0, 1): 4, (2, 3): 4, (4, 1): 4, (3, 4): 4}),
+    ('triangle with a pendant part on each', 6, [(0, 1), (1, 2), (0, 2), (0, 3), (1, 4), (2, 5)],
+     {(3, 4): 2, (3, 5): 1, (4, 5): 0, (0, 1): 0, (0, 4): 0, (3, 1): 1, (2, 3): 1, (5, 0): 0}),
+    ('ring of 4 with two pendant parts', 6, RING_OF_4 + [(1, 4), (3, 5)],
+     {(4, 5): None, (5, 4): None, (4, 3): 3, (1, 5): 1, (0, 2): 1, (4, 0): 3, (2, 5): 1}),
+    ('two pendant parts and a triangle on part 1', 5, [(0, 1), (1, 2), (1, 3), (1, 4), (3, 4)],
+     {(0, 2): 1, (2, 0): 1, (0, 3): 1, (4, 2): 1, (1, 3): 1}),
+]
+
+
+def chain_place(number, s, t):
+    """The place of refusal 10 for a chain of these parts, with s and t in these places of it, s before t: the lowest part
+    that has others on its side away from s and t, s and t among them. None where there are no others."""
+    return min(number[1:s + 1] + number[t:-1], default=None)
+
+
+def chains():
+    """The boundaries of stations with cut parts: drawn, and refused by 10."""
+    out = []
+
+    def put(what, words, place=None):
+        out.append(('%s, %s' % ('sheet' if place is None else 'refused 10 %d' % place, what), words))
+
+    put("check 10's example in document 01", build(3, 0, 2, [(0, 1), (1, 2)]))
+    for what, n, cables, ends_due in ENDS_OF:
+        for (s, t), place in ends_due.items():
+            put('%s, s %d, t %d' % (what, s, t), build(n, s, t, cables), place)
+
+    # A part, a pair's far end, a chain or a block hangs on a ring, s and t among its parts.
+    for on in range(4):
+        for s, t in ((0, 2), (3, 0)):
+            for what, more in (('part', [(on, 4)]), ('pair', 2 * [(4, on)]), ('triangle', [(on, 4), (4, 5), (on, 5)])):
+                put('ring of 4, s %d, t %d, a %s hangs on %d' % (s, t, what, on),
+                    build(6 if what == 'triangle' else 5, s, t, RING_OF_4 + more), on)
+    put('ring of 4, a chain of 2 hangs on 3', build(6, 0, 2, RING_OF_4 + [(3, 4), (4, 5)]), 3)
+    put('ring of 4 from part 2, a chain of 2 hangs on 5', build(6, 2, 4, [(2, 3), (3, 4), (4, 5), (5, 2), (5, 1), (1, 0)]), 1)
+    put('ring of 4 from part 2, a chain of 2 hangs on 2, which is s', build(6, 2, 4, [(2, 3), (3, 4), (4, 5), (5, 2), (2, 1), (1, 0)]), 1)
+    put('complete graph of 4, a part hangs on each', build(8, 0, 3, sorted(complete(4)[1]) + [(p, p + 4) for p in range(4)]), 0)
+    put('complete graph of 4, a part hangs on each, s and t two of these',
+        build(8, 4, 7, sorted(complete(4)[1]) + [(p, p + 4) for p in range(4)]), 1)
+
+    # Cables at s and at t, from one to four, with a cut part.
+    rng, seen = random.Random(14), set()
+    while len(seen) < 16:
+        n, cables, s, t = in_row(rng, rng.randint(4, 9))
+        count = degrees(n, cables)
+        if (count[s], count[t]) not in seen and cut_parts(n, cables):
+            seen.add((count[s], count[t]))
+            put('%d cables at s; %d at t; blocks in a row' % (count[s], count[t]), listed(rng, n, cables, s, t))
+
+    # Chains, in order, reversed and shuffled; ladders with chains.
+    for kind, make in CHAINS:
+        for n in (3, 4, 256, 257, 511, 512) if kind == 'chain' else (16, 257, 511, 512):
+            rng = random.Random('%s of %d' % (kind, n))
+            _, cables = make(n)
+            put('%d parts: %s in order' % (n, kind), build(n, 0, n - 1, sorted(cables)))
+            put('%d parts: %s reversed' % (n, kind), reversed_list(n, cables))
+            put('%d parts: %s shuffled' % (n, kind), listed(rng, n, cables, 0, n - 1))
+    rng = random.Random(514)
+    for what, (n, cables) in (('chain of 40 pairs', doubled(*chain(41))), ('chain, every other cable three times', triple_chain(41)),
+                              ('triangles in a row', triangles(41)), ('doubled chain', doubled(*chain(256))),
+                              ('triangles in a row', triangles(511)), ('triangles in a row', triangles(512)),
+                              ('rings of 16 in a row', rings(512, 16)), ('doubled chain', doubled(*chain(512))),
+                              ('triple chain', triple_chain(512)), ('two blocks on part 511', two_blocks(rng, 256, 255))):
+        t = 300 if 'on part 511' in what else n - 1
+        put('%d parts: %s' % (n, what), build(n, 0, t, sorted(cables)))
+        put('%d parts: %s shuffled' % (n, what), listed(rng, n, cables, 0, t))
+    for n in (256, 512):
+        for k in range(2):
+            put('%d parts: random blocks in a row, %d' % (n, k), listed(rng, *in_row(rng, n)))
+    for n in (256, 257, 512):
+        put('part %d of %d on one cable, which is t' % (n - 1, n), build(n, 0, n - 1, sorted(ring(n - 1)[1]) + [(n - 2, n - 1)]))
+        put('part %d of %d on one cable, which is s' % (n - 1, n), build(n, n - 1, 0, sorted(ring(n - 1)[1]) + [(n - 2, n - 1)]))
+
+    # Refused with many parts: at the highest part, at the lowest, at s, at t and at others.
+    for n in (256, 257, 512):
+        last, in_order = n - 1, sorted(chain(n)[1])
+        put('chain of %d, t is %d' % (n, n - 2), build(n, 0, n - 2, in_order), n - 2)
+        put('chain of %d, s is %d' % (n, n - 2), build(n, n - 2, 0, in_order), n - 2)
+        put('chain of %d, s is 1' % n, build(n, 1, last, in_order), 1)
+        for what, s, t in (('', 0, 1), (', which is s', last, 0), (', which is t', 0, last)):
+            put('%d parts: part %d hangs on %d%s' % (n, n - 2, last, what), build(n, s, t, sorted(hung_on_last(n)[1])), last)
+        for what, s, t in (('', 1, 2), (', which is s', 0, 1), (', which is t', 1, 0)):
+            put('%d parts: part %d hangs on 0%s' % (n, last, what), build(n, s, t, sorted(ring(n - 1)[1]) + [(0, last)]), 0)
+    _, in_order = chain(512)
+    put('chain of 512, s is 255 and t is 256', build(512, 255, 256, sorted(in_order)), 1)
+    put('chain of 512, t is 256', build(512, 0, 256, sorted(in_order)), 256)
+    for n, s, t in ((256, 0, 254), (512, 0, 256), (512, 200, 511), (512, 100, 400), (512, 255, 256)):
+        number = rng.sample(range(n), n)
+        rows = [(number[p], number[p + 1]) for p in range(n - 1)]
+        rng.shuffle(rows)
+        put('chain of %d shuffled, s and t in places %d and %d' % (n, s, t), build(n, number[s], number[t], rows), chain_place(number, s, t))
+    _, cables = ladder_with_chains(512)
+    put('512 parts: ladder with chains, s is 0 and t is 383, where the second begins', build(512, 0, 383, sorted(cables)), 383)
+    put('512 parts: ladder with chains, s is 128, where the first ends', build(512, 128, 511, sorted(cables)), 1)
+    put('511 parts: triangles in a row, t is 508, which two share', build(511, 0, 508, sorted(triangles(511)[1])), 508)
+    put('511 parts: triangles in a row, t is 506, which two share', build(511, 0, 506, sorted(triangles(511)[1])), 506)
+    put('512 parts: rings of 16 in a row, t is 480, where the last but one begins', build(512, 0, 480, sorted(rings(512, 16)[1])), 480)
+    _, cables = two_blocks(rng, 256, 255)
+    for s, t in ((0, 255), (256, 510), (511, 0), (0, 511)):
+        put('512 parts: two blocks on part 511, s is %d and t is %d' % (s, t), build(512, s, t, sorted(cables)), 511)
     return out
 
 
@@ -1090,7 +1317,7 @@ def spacing(rng):
 def edge_spacing(rng, words):
     """A spacing that brings a head field of this list's sheet to 4,095 or a little
     beside it, as far as pitch and margin reach. The list passes checks 1 to 10."""
-    side = rng.randrange(2)
+    side = rng.randrange(2) if extent(words)[0] else 1      # no pitch makes a sheet of one column wider
     size = extent(words)[side]
     pitch = min(64, max(1, 4095 // size))
     pitch = rng.choice([pitch, pitch, max(1, pitch - 1), rng.randint(1, pitch)])
@@ -1103,6 +1330,11 @@ def edge_spacing(rng, words):
 def ring_list(n):
     """The grid is 1 wide and n - 1 high."""
     return build(n, 0, n - 1, sorted(ring(n)[1]))
+
+
+def chain_list(n):
+    """The grid is one column, n - 1 high."""
+    return build(n, 0, n - 1, sorted(chain(n)[1]))
 
 
 def full_list(n):
@@ -1125,6 +1357,12 @@ EDGES = [
         ((1, 63, 0), 4095), ((1, 62, 32), 4094), ((1, 62, 33), 4096), ((1, 63, 1), 4097), ((1, 64, 0), 4160)]),
     ('ring of 65', ring_list(65), [((1, 63, 31), 4094), ((1, 63, 32), 4096), ((1, 64, 0), 4096), ((64, 64, 0), 4096)]),
     ('ring of 64', ring_list(64), [((1, 64, 31), 4094), ((1, 63, 63), 4095), ((1, 64, 32), 4096), ((1, 63, 64), 4097)]),
+    # A chain has one column, for which no pitch counts: the head's width is twice the margin.
+    ('chain of 3', chain_list(3), [
+        ((1, 1, 0), 2), ((64, 1, 0), 2), ((64, 1, 255), 512), ((1, 64, 255), 638), ((64, 64, 255), 638)]),
+    ('chain of 58', chain_list(58), [((64, 64, 223), 4094), ((64, 64, 224), 4096), ((1, 64, 224), 4096), ((1, 63, 252), 4095), ((1, 63, 253), 4097)]),
+    ('chain of 65', chain_list(65), [((64, 63, 31), 4094), ((64, 63, 32), 4096), ((64, 64, 0), 4096), ((64, 1, 255), 574)]),
+    ('chain of 66', chain_list(66), [((64, 63, 0), 4095), ((64, 63, 1), 4097), ((1, 64, 0), 4160)]),
     # The largest ring that the widest spacing has room for, and the next one.
     ('ring of 57', ring_list(57), [((64, 64, 255), 4094)]),
     ('ring of 58', ring_list(58), [((64, 64, 223), 4094), ((64, 64, 224), 4096), ((64, 64, 255), 4158)]),
@@ -1139,6 +1377,14 @@ EDGES = [
     ('ring of 512', ring_list(512), [
         ((1, 8, 0), 4088), ((1, 8, 3), 4094), ((64, 8, 3), 4094), ((64, 1, 255), 1021), ((1, 7, 255), 4087),
         ((1, 8, 4), 4096), ((1, 9, 0), 4599), ((1, 8, 255), 4598), ((1, 64, 0), 32704), ((64, 64, 255), 33214)]),
+    ('chain of 256', chain_list(256), [((64, 16, 7), 4094), ((64, 16, 8), 4096), ((64, 17, 0), 4335)]),
+    ('chain of 257', chain_list(257), [((64, 15, 127), 4094), ((64, 15, 128), 4096), ((64, 16, 0), 4096)]),
+    ('chain of 511', chain_list(511), [((1, 8, 7), 4094), ((64, 8, 7), 4094), ((64, 8, 8), 4096), ((1, 9, 0), 4590)]),
+    ('chain of 512', chain_list(512), [
+        ((1, 8, 0), 4088), ((64, 8, 0), 4088), ((1, 8, 3), 4094), ((64, 8, 3), 4094), ((64, 1, 255), 1021), ((64, 7, 255), 4087),
+        ((1, 8, 4), 4096), ((64, 8, 4), 4096), ((1, 9, 0), 4599), ((64, 9, 0), 4599), ((1, 64, 0), 32704), ((64, 64, 255), 33214)]),
+    ('doubled chain of 512', build(512, 0, 511, doubled(*chain(512))[1]), [
+        ((8, 8, 3), 4094), ((8, 1, 3), 4094), ((8, 8, 4), 4096), ((8, 1, 4), 4096), ((1, 8, 4), 4096), ((8, 9, 0), 4599), ((9, 8, 0), 4599)]),
     ('255 parts, 510 cables', full_list(255), [
         ((15, 1, 127), 4094), ((15, 1, 128), 4096), ((16, 1, 0), 4096), ((1, 16, 0), 4096), ((16, 16, 0), 4096)]),
     ('256 parts, 511 cables', wide_list(256), [
@@ -1220,7 +1466,7 @@ def spaced():
             put(due, what, words, given)
             put(due, what, words, given, GOOD[k % len(GOOD)])
     for n in (256, 512):
-        no(10, 1, '10 before 14', build(n, 0, n - 1, [(p, p + 1) for p in range(n - 1)]), (64, 64, 255))
+        no(10, n - 2, '10 before 14', build(n, 0, n - 2, sorted(chain(n)[1])), (64, 64, 255))
         no(9, n - 1, '9 before 14', build(n, 0, 1, sorted(ring(n - 1)[1])), (64, 64, 255), 500)
         no(13, 2, '13 before 14', ring_list(n), (64, 64, 256))
     return out

@@ -30,16 +30,28 @@ DISCOUNTS = (0, 5, 500, 1250, 10000, 10001, 4294967295)
 
 SPACINGS = ((2, 3, 10), (64, 64, 255), (1, 64, 0), (64, 1, 1))
 
-# of those of 257, 511 and 512 parts all ladders, grids, rings, four-regular and random ones, and of the others one with pairs alone and one
-# whose parts wait long for their ranks
-LARGER = {'sheet, %d parts: %s %s' % (n, kind, how) for n in (257, 511, 512) for kind, _ in lists.KINDS
-          for how in ('in order', 'reversed', 'shuffled')} | {'sheet, 512 parts: doubled ring shuffled', 'sheet, 512 parts: rails'}
+# of those of 257, 511 and 512 parts all ladders, grids, rings, four-regular and random ones, of 512 all chains, and of the others one with
+# pairs alone, one whose parts wait long for their ranks, and one of each kind with cut parts
+WAYS = 'in order', 'reversed', 'shuffled'
+LARGER = {'sheet, %d parts: %s %s' % (n, kind, how) for n in (257, 511, 512) for kind, _ in lists.KINDS for how in WAYS} | {
+    'sheet, 512 parts: ' + what for what in (
+        *('chain ' + how for how in WAYS), 'doubled ring shuffled', 'rails', 'ladder with chains shuffled', 'triangles in a row shuffled',
+        'rings of 16 in a row', 'triple chain shuffled', 'two blocks on part 511', 'random blocks in a row, 0')} | {
+    'sheet, 257 parts: chain shuffled', 'sheet, 511 parts: chain shuffled', 'sheet, part 511 of 512 on one cable, which is t'}
+
+# of the lists of 256 parts and more that 10 refuses, what their names say behind the refusal
+SEPARATED = ('chain of 256, t is 254', 'chain of 512, t is 510', 'chain of 512, s is 510', 'chain of 512 shuffled, s and t in places 100 and 400',
+             '512 parts: part 510 hangs on 511', '512 parts: part 511 hangs on 0, which is s',
+             '512 parts: ladder with chains, s is 0 and t is 383, where the second begins',
+             '512 parts: two blocks on part 511, s is 0 and t is 255')
 
 # of stations of 255 parts and more some calls that 14 lets pass, by the width and by the height, and some that it refuses; of others all
-EDGES = {'ring of 256': ((1, 15, 135), (1, 16, 7), (1, 16, 8), (64, 64, 255)), '255 parts, 510 cables': ((15, 1, 128), (1, 16, 0)),
+EDGES = {'chain of 256': ((64, 16, 7), (64, 16, 8)), 'ring of 256': ((1, 15, 135), (1, 16, 7), (1, 16, 8), (64, 64, 255)), '255 parts, 510 cables': ((15, 1, 128), (1, 16, 0)),
          '256 parts, 511 cables': ((15, 16, 7), (16, 16, 0)), '256 parts, 512 cables': ((15, 15, 120), (16, 20, 0))}
 LARGER_EDGES = {'ring of 257': ((1, 15, 128), (1, 16, 0)), 'ring of 511': ((1, 8, 8), (1, 9, 0)),
                 'ring of 512': ((1, 8, 3), (1, 8, 4), (1, 9, 0), (64, 64, 255)),
+                'chain of 257': ((64, 16, 0),), 'chain of 511': ((64, 8, 8),),
+                'chain of 512': ((64, 8, 3), (64, 8, 4), (1, 9, 0)), 'doubled chain of 512': ((8, 1, 4),),
                 '257 parts, 514 cables': ((16, 1, 0), (1, 16, 0)), '510 parts, 1020 cables': ((8, 1, 4), (1, 8, 4), (9, 1, 0)),
                 '511 parts, 1022 cables': ((8, 1, 0), (1, 8, 0)), '512 parts, 1023 cables': ((7, 8, 4), (8, 1, 0), (8, 9, 0)),
                 '512 parts, 1024 cables': ((7, 7, 253), (8, 1, 0), (1, 8, 0), (10, 8, 0), (64, 64, 255))}
@@ -62,25 +74,30 @@ def with_repeats():
     return [reference.hexes(row) for row, *_ in reference.REPEATS.values()]
 
 
+def with_cut_parts():
+    return [reference.hexes(row) for row, *_ in reference.CHAINS.values()]
+
+
 def examples():
     """The examples of checks 1 to 10."""
     return [reference.hexes(text) for text, _, (check, _) in reference.REFUSALS if check <= 10]
 
 
-def is_stored(name):
-    """Of the boundaries all but most of the largest stations, of which the rings in order stand there once, and, with
-    repeated cables, most that differ from others in the sequence of lines alone."""
-    left_out = (name.startswith(('sheet, 256 parts', 'sheet, 257 parts', 'sheet, 512 parts', 'sheet, 511 parts'))
+def is_stored(name, words):
+    """Of the boundaries all but most of the largest stations, of which the rings in order stand there once, most of the
+    largest lists that 10 refuses, and, with repeated cables, most that differ from others in the sequence of lines alone."""
+    left_out = (name.startswith(('sheet, 256 parts', 'sheet, 257 parts', 'sheet, 512 parts', 'sheet, 511 parts', 'sheet, part'))
                 or name in ('sheet, ring of 257', 'sheet, ring of 511', 'sheet, ring of 512', 'sheet, s is 511 and t is 255 of 512')
                 or name.endswith('lines reversed, some turned round')
-                or 'behind others, some turned round' in name or 'the others turned round' in name)
+                or 'behind others, some turned round' in name or 'the others turned round' in name
+                or name.startswith('refused 10') and lists.is_large(words) and name.split(', ', 1)[1] not in SEPARATED)
     return name in LARGE or name in LARGER or not left_out
 
 
 def without_discount(rng):
-    out = worked() + with_repeats() + examples()
-    out += [words for name, words in lists.boundaries() if is_stored(name)]
-    wanted = {(a, b): 6 for a in (2, 3, 4) for b in (2, 3, 4)}
+    out = worked() + with_repeats() + with_cut_parts() + examples()
+    out += [words for name, words in lists.boundaries() if is_stored(name, words)]
+    wanted = {(a, b): 6 if min(a, b) > 1 else 3 for a in (1, 2, 3, 4) for b in (1, 2, 3, 4)}
     while any(wanted.values()):
         words = lists.drawn(rng, 3, 40)
         if wanted[shape(words)]:
@@ -95,7 +112,7 @@ def with_discount(rng):
     """The worked stations; a cable as long as each ready length up to 512, and one a step longer; an example of each
     check; three stations of 256 parts; random ones."""
     out = [(words, d) for words in worked() for d in DISCOUNTS]
-    out += [(words, d) for words in with_repeats() for d in (0, 1250)]
+    out += [(words, d) for words in with_repeats() + with_cut_parts() for d in (0, 1250)]
     for ready, longer in zip(lists.READY, lists.READY[1:]):
         if ready <= 512:
             out += [(lists.with_run(ready), 0), (lists.with_run(ready + 1), rng.choice(lists.HALVES[longer] or [1250]))]
@@ -111,7 +128,7 @@ def with_spacing(rng):
     """The worked stations, without a discount and with one; each fault of a spacing, two at once, and 12 before it; a bad and a good spacing with an example
     of each check; stations at the edge of 4,095, with a discount now and then; random ones."""
     out = [(words, d, spacing) for words in worked() for k, spacing in enumerate(SPACINGS) for d in ((None, 1250) if k < 2 else (None,))]
-    out += [(words, d, SPACINGS[0]) for words in with_repeats() for d in (None, 1250)]
+    out += [(words, d, SPACINGS[0]) for words in with_repeats() + with_cut_parts() for d in (None, 1250)]
     triangle = worked()[0]
     for place in range(3):
         for k in (0, 64, 65, 65537, 4294967295) if place < 2 else (255, 256, 65536, 4294967295):
@@ -128,7 +145,7 @@ def with_spacing(rng):
             chosen = EDGES.get(what) or [spacing for spacing, _ in rows]
             out += [(words, 1250 if k % 3 == 2 else None, spacing) for k, spacing in enumerate(chosen)]
     large = dict(lists.boundaries())
-    out += [(large['refused 10 1, path of 256'], None, (64, 64, 255)), (lists.full_list(256), 1250, (15, 15, 120))]
+    out += [(large['refused 10 254, chain of 256, t is 254'], None, (64, 64, 255)), (lists.full_list(256), 1250, (15, 15, 120))]
     return out + [(lists.drawn(rng, 3, 24), lists.good_discount(rng) if k % 3 == 2 else None, lists.good_spacing(rng)) for k in range(30)]
 
 
@@ -149,7 +166,7 @@ def with_512_parts(rng):
     out += [(lists.about_limit(rng), None, grid) for _ in range(20)]
     large = dict(lists.boundaries())
     return out + [(large[name], 1250, (64, 64, 255)) for name in (
-        'refused 10 1, path of 512', 'refused 9 511, part 511 of 512 alone', 'refused 4 513, ring of 513')]
+        'refused 10 510, chain of 512, t is 510', 'refused 9 511, part 511 of 512 alone', 'refused 4 513, ring of 513')]
 
 
 def line(answer):

@@ -285,26 +285,21 @@ def stations(sizes=(16, 64, 256, 512)):
             _, cables = make(rng, n)
             for numbers in NUMBERS:
                 yield '%s, %s' % (name, numbers), numbered(rng, n, cables, numbers), ROOM
+        for kind, make in lists.CHAINS:
+            name = '%s of %d' % (kind, n)
+            for numbers in NUMBERS:
+                yield '%s, %s' % (name, numbers), numbered(random.Random(name), *make(n), numbers), ROOM
         for kind, make in PAIRED:
             name = '%s of %d' % (kind, n)
             yield name + ', shuffled', numbered(random.Random(name), *make(n), 'shuffled'), ROOM
         yield 'rails of %d' % n, lists.rails(n), ROOM
 
 
-def hung(rng, sizes):
-    """Stations with four cables at each part, and a last part put into a cable of each: the only cut part."""
-    cables, base, n = set(), 0, sum(sizes)
-    for size in sizes:
-        more = sorted((a + base, b + base) for a, b in lists.four_regular(rng, size)[1])
-        a, b = more.pop()
-        cables |= set(more) | {(a, n), (b, n)}
-        base += size
-    return n + 1, cables
-
-
 def refusals():
     """The longest list that each check refuses, with its fault as far behind as it can be; a million words where there is
-    no longest. Of 8 also as many pairs of 512 parts as there are lines, each once; 7 is the number of no check."""
+    no longest. Of 8 also as many pairs of 512 parts as there are lines, each once; 7 is the number of no check. 10 refuses
+    part 511, which two blocks with four cables at each part share, with s and t in the first; of 10 also a chain of 512 parts,
+    whose t is the last but one."""
     rng = random.Random(2)
     most = 65535
     long = [lists.cable(0, 1), lists.cable(1, 2)] * 500000
@@ -322,7 +317,8 @@ def refusals():
     yield 'refused 8, longest', full(512, most * [lists.cable(510, 511)]), ROOM
     n, cables = lists.four_regular(rng, 507)
     yield 'refused 9', lists.build(512, 0, 1, sorted(cables) + [(n + a, n + b) for a, b in sorted(lists.complete(5)[1])]), ROOM
-    n, cables = hung(rng, (256, 255))
+    yield 'refused 10, chain', lists.build(512, 0, 510, sorted(lists.chain(512)[1])), ROOM
+    n, cables = lists.two_blocks(rng, 256, 255)
     yield 'refused 10', lists.build(n, 0, 1, sorted(cables)), ROOM
     n, cables = lists.four_regular(rng, 512)
     yield 'refused 11', lists.build(n, 0, 511, sorted(cables)), 3589

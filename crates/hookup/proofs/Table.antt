@@ -1,6 +1,6 @@
 -- The ten refusals, the boundaries, and stations A to D of document 01, with the lengths of request 2026-01, the crossings of 2026-02,
--- the corners of 2026-04, the prices of 2026-05, the spacing of 2026-06, the 512 parts of 2026-11 and the repeated cables of 2026-12, as the
--- definitions give them. Assumes nothing.
+-- the corners of 2026-04, the prices of 2026-05, the spacing of 2026-06, the 512 parts of 2026-11, the repeated cables of 2026-12 and the
+-- chains of 2026-14, as the definitions give them. Assumes nothing.
 use Prim.Native.Nat.{ℕ}
 use mathlib.Core.Path.{_≡_, refl}
 use mathlib.Core.Bool.{true, false}
@@ -26,7 +26,7 @@ use Rattle.hookup.specs.Drawing.{drawing}
 use Rattle.hookup.specs.Outcome.{outcome}
 use Rattle.checks.specs.Outcome.{sentBack, written}
 use Rattle.hookup.proofs.Demand3.{sheetOf}
-use Rattle.hookup.proofs.Ring.{ring, ring-64, ring-17, ring-16, ring-16-short, ring-9, ring-8, ring-8-short}
+use Rattle.hookup.proofs.Chains.{chain, ring, ring-64, ring-17, ring-16, ring-16-short, ring-9, ring-8, ring-8-short, chain-9, chain-8, chain-8-short}
 use Rattle.hookup.proofs.Computing.{hookup-computing}
 
 abbrev pub square : List ℕ
@@ -84,6 +84,25 @@ pairBelow = 0x10040006 ∷ 0x20000003 ∷ 0x30000002 ∷ 0x30001000 ∷ 0x300000
 abbrev pub pairAbove : List ℕ
 pairAbove = 0x10040007 ∷ 0x20000003 ∷ 0x30000001 ∷ 0x30000002 ∷ 0x30000003 ∷ 0x30001002 ∷ 0x30001003 ∷ 0x30002003 ∷ 0x30003002 ∷ []
 
+-- 2026-14: document 01's example of check 10; a ladder of parts 1 to 6, with 0-1 and 6-7
+abbrev pub threeInLine : List ℕ
+threeInLine = 0x10030002 ∷ 0x20000002 ∷ 0x30000001 ∷ 0x30001002 ∷ []
+
+abbrev pub chainedLadder : List ℕ
+chainedLadder =
+    0x10080009
+    ∷ 0x20000007
+    ∷ 0x30000001
+    ∷ 0x30001002
+    ∷ 0x30001003
+    ∷ 0x30002004
+    ∷ 0x30003004
+    ∷ 0x30003005
+    ∷ 0x30004006
+    ∷ 0x30005006
+    ∷ 0x30006007
+    ∷ []
+
 abbrev drawingOfList : List ℕ → Drawing
 drawingOfList list = drawing (stationOf list)
 
@@ -102,7 +121,13 @@ pub record Table : Type 0 where
   repeated : outcome plain (0x10030002 ∷ 0x20000002 ∷ 0x30000001 ∷ 0x30001000 ∷ []) room ≡ sentBack 9 2
   refusal-8 : outcome plain (0x10060005 ∷ 0x20000005 ∷ 0x30000001 ∷ 0x30000002 ∷ 0x30000003 ∷ 0x30000004 ∷ 0x30000005 ∷ []) room ≡ sentBack 8 0
   refusal-9 : outcome plain (0x10030001 ∷ 0x20000002 ∷ 0x30000001 ∷ []) room ≡ sentBack 9 2
-  refusal-10 : outcome plain (0x10030002 ∷ 0x20000002 ∷ 0x30000001 ∷ 0x30001002 ∷ []) room ≡ sentBack 10 1
+  -- 2026-14: 'Check 10's example is now drawn, with width 0; with t = 1 it is still refused at 1'
+  chain-drawn :
+      outcome plain threeInLine 9
+      ≡ written
+      (0x40000002 ∷ 0x50000000 ∷ 0x50000001 ∷ 0x50000002 ∷ 0x60000000 ∷ 0x60001000 ∷ 0x80000001 ∷ 0x80001001 ∷ 0xa0000002 ∷ [])
+      0
+  refusal-10 : outcome plain (0x10030002 ∷ 0x20000001 ∷ 0x30000001 ∷ 0x30001002 ∷ []) room ≡ sentBack 10 1
   -- 2026-01: 'check 11 measures them too: the triangle needs 13'
   refusal-11 : outcome plain triangle 12 ≡ sentBack 11 13
   -- 2026-11: 'Check 4 allows 512', and refuses 513
@@ -177,8 +202,12 @@ pub record Table : Type 0 where
       ≡ written
       (0x40003002 ∷ 0x50002000 ∷ 0x50001001 ∷ 0x50001002 ∷ 0x60000001 ∷ 0x70001000 ∷ 0x60001001 ∷ 0x70002001 ∷ 0x60002002 ∷ 0x70000001 ∷ 0x70000002 ∷ 0x60003000 ∷ 0x60004002 ∷ 0x70003000 ∷ 0x70003002 ∷ 0x80000002 ∷ 0x80001002 ∷ 0x80002003 ∷ 0x80003001 ∷ 0x80004005 ∷ 0xa000000d ∷ [])
       0
-  -- without 0-2 part 1 is a cut part
-  pairs-cut : outcome plain (0x10030004 ∷ 0x20000002 ∷ 0x30000001 ∷ 0x30000001 ∷ 0x30001002 ∷ 0x30001002 ∷ []) room ≡ sentBack 10 1
+  -- without 0-2, a chain of pairs (2026-14)
+  pairs-chain :
+      outcome plain (0x10030004 ∷ 0x20000002 ∷ 0x30000001 ∷ 0x30000001 ∷ 0x30001002 ∷ 0x30001002 ∷ []) 17
+      ≡ written
+      (0x40002002 ∷ 0x50001000 ∷ 0x50001001 ∷ 0x50000002 ∷ 0x60000000 ∷ 0x60001002 ∷ 0x70002000 ∷ 0x70002001 ∷ 0x60002001 ∷ 0x70000001 ∷ 0x60003001 ∷ 0x70001002 ∷ 0x80000001 ∷ 0x80001003 ∷ 0x80002002 ∷ 0x80003002 ∷ 0xa0000008 ∷ [])
+      0
   -- 'where several could leave s downward or climb over t, the lowest line does': line 1 of lines 1 and 2, with three corners
   below-drawn :
       outcome plain pairBelow 25
@@ -193,6 +222,31 @@ pub record Table : Type 0 where
       (0x40004004 ∷ 0x50003000 ∷ 0x50001001 ∷ 0x50001002 ∷ 0x50002003 ∷ 0x60000001 ∷ 0x70001000 ∷ 0x60001001 ∷ 0x70003002 ∷ 0x60002002 ∷ 0x70004000 ∷ 0x70004003 ∷ 0x60003000 ∷ 0x60004001 ∷ 0x70002001 ∷ 0x60005003 ∷ 0x70000002 ∷ 0x70000004 ∷ 0x70002004 ∷ 0x60006001 ∷ 0x70001003 ∷ 0x80000003 ∷ 0x80001004 ∷ 0x80002006 ∷ 0x80003001 ∷ 0x80004003 ∷ 0x80005006 ∷ 0x80006002 ∷ 0xa0000019 ∷ [])
       1
   above-bends : map (λ r. length (r .corners)) (drawingOfList pairAbove .routes) ≡ 1 ∷ 1 ∷ 2 ∷ 0 ∷ 1 ∷ 3 ∷ 1 ∷ []
+  -- 2026-14: a chain of four with s in the middle, which separates the part behind it; with t there; with s at an end it is drawn
+  chain-source-inside : outcome plain (0x10040003 ∷ 0x20001003 ∷ 0x30000001 ∷ 0x30001002 ∷ 0x30002003 ∷ []) room ≡ sentBack 10 1
+  chain-analyser-inside : outcome plain (0x10040003 ∷ 0x20000002 ∷ 0x30000001 ∷ 0x30001002 ∷ 0x30002003 ∷ []) room ≡ sentBack 10 2
+  -- s in the middle of three
+  chain-source-between : outcome plain (0x10030002 ∷ 0x20001002 ∷ 0x30000001 ∷ 0x30001002 ∷ []) room ≡ sentBack 10 1
+  -- a part with one cable that is neither end is refused at its neighbour
+  pendant : outcome plain (0x10040004 ∷ 0x20000002 ∷ 0x30000001 ∷ 0x30001002 ∷ 0x30000002 ∷ 0x30001003 ∷ []) room ≡ sentBack 10 1
+  -- a ladder of six with a chain at either end
+  ladder-drawn :
+      outcome plain chainedLadder 32
+      ≡ written
+      (0x40002007 ∷ 0x50000000 ∷ 0x50000001 ∷ 0x50000002 ∷ 0x50001003 ∷ 0x50000004 ∷ 0x50002005 ∷ 0x50000006 ∷ 0x50000007 ∷ 0x60000000 ∷ 0x60001000 ∷ 0x60002001 ∷ 0x70001001 ∷ 0x60003000 ∷ 0x60004001 ∷ 0x70001004 ∷ 0x60005001 ∷ 0x70002003 ∷ 0x60006000 ∷ 0x60007001 ∷ 0x70002006 ∷ 0x60008000 ∷ 0x80000001 ∷ 0x80001001 ∷ 0x80002003 ∷ 0x80003002 ∷ 0x80004002 ∷ 0x80005003 ∷ 0x80006002 ∷ 0x80007003 ∷ 0x80008001 ∷ 0xa0000012 ∷ [])
+      0
+  chain-short : outcome plain threeInLine 8 ≡ sentBack 11 9
+  -- at width 0: prices, and a spacing, whose margins are all of its width
+  chain-quoted :
+      outcome (quoted 0) threeInLine 12
+      ≡ written
+      (0x40000002 ∷ 0x50000000 ∷ 0x50000001 ∷ 0x50000002 ∷ 0x60000000 ∷ 0x60001000 ∷ 0x80000001 ∷ 0x80001001 ∷ 0xa0000002 ∷ 970 ∷ 970 ∷ 1940 ∷ [])
+      0
+  chain-spaced :
+      outcome (spacedBy 64 2 3 plain) threeInLine 9
+      ≡ written
+      (0x4000600a ∷ 0x50003003 ∷ 0x50003005 ∷ 0x50003007 ∷ 0x60000000 ∷ 0x60001000 ∷ 0x80000001 ∷ 0x80001001 ∷ 0xa0000002 ∷ [])
+      0
   -- 2026-05: the triangle's runs, and the ready lengths that they take; the longest ready length; 'm + 1 words' more, 'and check 11
   -- measures it'
   a-lengths : cableLengths (drawingOfList triangle) ≡ 1 ∷ 1 ∷ 4 ∷ []
@@ -242,6 +296,10 @@ pub record Table : Type 0 where
   refusal-14-512 : (room : ℕ) → outcome (spacedBy 1 9 0 plain) (ring 512) room ≡ sentBack 14 4599
   ring-512-fits : outcome (spacedBy 1 8 0 plain) (ring 512) 1540 ≡ written (sheetOf (spacedBy 1 8 0 plain) (ring 512)) (crossings (drawingOfList (ring 512)))
   ring-512-short : outcome (spacedBy 1 8 0 plain) (ring 512) 1539 ≡ sentBack 11 1540
+  -- 2026-14: a chain of 512 parts is 0 wide and 511 high
+  refusal-14-chain : (room : ℕ) → outcome (spacedBy 1 9 0 plain) (chain 512) room ≡ sentBack 14 4599
+  chain-512-fits : outcome (spacedBy 1 8 0 plain) (chain 512) 1536 ≡ written (sheetOf (spacedBy 1 8 0 plain) (chain 512)) (crossings (drawingOfList (chain 512)))
+  chain-512-short : outcome (spacedBy 1 8 0 plain) (chain 512) 1535 ≡ sentBack 11 1536
 
 pub table : Table
 unfolding hookup-computing
@@ -255,6 +313,7 @@ table = record {
   repeated = refl;
   refusal-8 = refl;
   refusal-9 = refl;
+  chain-drawn = refl;
   refusal-10 = refl;
   refusal-11 = refl;
   parts-512 = refl;
@@ -292,11 +351,19 @@ table = record {
   pair-triangle = refl;
   pair-short = refl;
   pairs-drawn = refl;
-  pairs-cut = refl;
+  pairs-chain = refl;
   below-drawn = refl;
   below-bends = refl;
   above-drawn = refl;
   above-bends = refl;
+  chain-source-inside = refl;
+  chain-analyser-inside = refl;
+  chain-source-between = refl;
+  pendant = refl;
+  ladder-drawn = refl;
+  chain-short = refl;
+  chain-quoted = refl;
+  chain-spaced = refl;
   a-lengths = refl;
   a-taken = refl;
   price-2048 = refl;
@@ -329,4 +396,7 @@ table = record {
   refusal-14-512 = ring-9;
   ring-512-fits = ring-8;
   ring-512-short = ring-8-short;
+  refusal-14-chain = chain-9;
+  chain-512-fits = chain-8;
+  chain-512-short = chain-8-short;
 }

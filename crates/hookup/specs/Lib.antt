@@ -1,5 +1,5 @@
--- Document 01 as a whole, with requests 2026-01, 2026-02, 2026-04 to 2026-06, 2026-11 and 2026-12: what a caller gives, the checks, the drawing of a
--- station, the answer, and the demands. Assumes nothing.
+-- Document 01 as a whole, with requests 2026-01, 2026-02, 2026-04 to 2026-06, 2026-11, 2026-12 and 2026-14: what a caller gives, the
+-- checks, the drawing of a station, the answer, and the demands. Assumes nothing.
 pub mod Options
 pub mod Drawing
 pub mod Checks
@@ -10,3 +10,4 @@ pub mod Answer
 -- What only laws cite
 pub mod Repeats
 pub mod PartLimit
+pub mod CutParts

@@ -77,18 +77,18 @@ module _ (st : Station) (unranked : List ℕ) (R : Rest st unranked) where
 
   -- the parts that are stuck without w, tested and counted
   stuckTest : ℕ → ℕ → Bool
-  stuckTest w x = member x (unreached (st .cables) (without w unranked) (st .analyser))
+  stuckTest w x = member x (unreached (st .cables) (without w unranked) (st .analyser ∷ []))
 
   size : ℕ → ℕ
   size w = count (stuckTest w) unranked
 
-  stuck-e : (w : ℕ) {x : ℕ} → List·Memᴰ x (unreached (st .cables) (without w unranked) (st .analyser)) → Stuck w x
+  stuck-e : (w : ℕ) {x : ℕ} → List·Memᴰ x (unreached (st .cables) (without w unranked) (st .analyser ∷ [])) → Stuck w x
   stuck-e w {x} m =
       let h : List·Memᴰ x (without w unranked) × (Path (st .cables) (Among (without w unranked)) x (st .analyser) → ⊥) =
       unreached-iff (st .cables) (without w unranked) (st .analyser) x .0 m in
       (h .0, λ r. h .1 (path-back (st .cables) r))
 
-  stuck-i : (w : ℕ) {x : ℕ} → Stuck w x → List·Memᴰ x (unreached (st .cables) (without w unranked) (st .analyser))
+  stuck-i : (w : ℕ) {x : ℕ} → Stuck w x → List·Memᴰ x (unreached (st .cables) (without w unranked) (st .analyser ∷ []))
   stuck-i w {x} h =
       unreached-iff (st .cables) (without w unranked) (st .analyser) x .1 (h .0, λ r. h .1 (path-back (st .cables) r))
 
@@ -126,7 +126,7 @@ module _ (st : Station) (unranked : List ℕ) (R : Rest st unranked) where
       (member-i (left w) (stuck-i w a))
     where
       left : ℕ → List ℕ
-      left v = unreached (st .cables) (without v unranked) (st .analyser)
+      left v = unreached (st .cables) (without v unranked) (st .analyser ∷ [])
 
       sub : (x : ℕ) → stuckTest w′ x ≡ true → stuckTest w x ≡ true
       sub x e = member-i (left w) (stuck-i w (shrinks w w′ x m n a (stuck-e w′ (member-e x (left w′) e))))
@@ -179,7 +179,7 @@ module _ (st : Station) (unranked : List ℕ) (R : Rest st unranked) where
         to (inr r) = absurd (path-end (st .cables) r .1 refl)
 
     -- The one without which nothing is stuck is a candidate.
-    none-stuck : (w : ℕ) → Front st unranked (st .analyser) w → unreached (st .cables) (without w unranked) (st .analyser) ≡ []
+    none-stuck : (w : ℕ) → Front st unranked (st .analyser) w → unreached (st .cables) (without w unranked) (st .analyser ∷ []) ≡ []
         → Candidate (st .cables) (st .analyser) unranked w
     none-stuck w f e =
         record {
@@ -191,12 +191,12 @@ module _ (st : Station) (unranked : List ℕ) (R : Rest st unranked) where
         rest : List ℕ
         rest = without w unranked
 
-        to : (x : ℕ) → List·Memᴰ x (unreached (st .cables) rest (st .analyser)) ⊎ Path (st .cables) (Among rest) x (st .analyser) → Path (st .cables) (Among rest) x (st .analyser)
+        to : (x : ℕ) → List·Memᴰ x (unreached (st .cables) rest (st .analyser ∷ [])) ⊎ Path (st .cables) (Among rest) x (st .analyser) → Path (st .cables) (Among rest) x (st .analyser)
         to x (inl h) = absurd (List·Memᴰ·not-nil (subst (List·Memᴰ x) e h))
         to x (inr r) = r
 
     -- a candidate, or a part joined to a ranked one without which fewer are stuck
-    nearer : (w : ℕ) (l : List ℕ) → unreached (st .cables) (without w unranked) (st .analyser) ≡ l → Front st unranked (st .analyser) w
+    nearer : (w : ℕ) (l : List ℕ) → unreached (st .cables) (without w unranked) (st .analyser ∷ []) ≡ l → Front st unranked (st .analyser) w
         → ((w′ : ℕ) × List·Memᴰ w′ unranked × Candidate (st .cables) (st .analyser) unranked w′) ⊎ ((w′ : ℕ) × (size w′ < size w) × Front st unranked (st .analyser) w′)
     nearer w [] e f = inl (w, f .unrank, none-stuck w f e)
     nearer w (c ∷ l) e f = inr (made (next-stuck w c (f .unrank) (f .other) (stuck-e w (subst (List·Memᴰ c) (sym e) (List·Memᴰ·head refl)))))
@@ -210,13 +210,13 @@ module _ (st : Station) (unranked : List ℕ) (R : Rest st unranked) where
 
     find : (k w : ℕ) → size w ≤ k → Front st unranked (st .analyser) w
         → (w′ : ℕ) × List·Memᴰ w′ unranked × Candidate (st .cables) (st .analyser) unranked w′
-    find zero w h f = go (nearer w (unreached (st .cables) (without w unranked) (st .analyser)) refl f)
+    find zero w h f = go (nearer w (unreached (st .cables) (without w unranked) (st .analyser ∷ [])) refl f)
       where
         go : ((w′ : ℕ) × List·Memᴰ w′ unranked × Candidate (st .cables) (st .analyser) unranked w′) ⊎ ((w′ : ℕ) × (size w′ < size w) × Front st unranked (st .analyser) w′)
             → (w′ : ℕ) × List·Memᴰ w′ unranked × Candidate (st .cables) (st .analyser) unranked w′
         go (inl c) = c
         go (inr g) = absurd (omega (arith, g .1))
-    find (suc k) w h f = go (λ w′ g i. find k w′ g i) (nearer w (unreached (st .cables) (without w unranked) (st .analyser)) refl f)
+    find (suc k) w h f = go (λ w′ g i. find k w′ g i) (nearer w (unreached (st .cables) (without w unranked) (st .analyser ∷ [])) refl f)
       where
         go : ((w′ : ℕ) → size w′ ≤ k → Front st unranked (st .analyser) w′ → (w″ : ℕ) × List·Memᴰ w″ unranked × Candidate (st .cables) (st .analyser) unranked w″)
             → ((w′ : ℕ) × List·Memᴰ w′ unranked × Candidate (st .cables) (st .analyser) unranked w′) ⊎ ((w′ : ℕ) × (size w′ < size w) × Front st unranked (st .analyser) w′)

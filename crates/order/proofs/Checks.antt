@@ -1,10 +1,10 @@
--- What checks 9 and 10 of document 01 say, in terms of paths, both ways. Assumes nothing.
+-- What checks 9 and 10 say, in terms of paths, both ways. Assumes nothing.
 use Prim.Native.Nat.{ℕ, _<_}
 use native.Mathlib.Omega.{arith}
-use mathlib.Core.Path.{_≡_, sym, ap, _∙_}
+use mathlib.Core.Path.{_≡_, refl, sym, ap, _∙_, subst}
 use mathlib.Core.Logic.{_⊎_, inl, inr, _↔_}
 use mathlib.Core.Bool.{Bool, true, false, not, false≢true}
-use mathlib.Core.List.{List, List·Memᴰ}
+use mathlib.Core.List.{List, [], _∷_, List·Memᴰ, List·Memᴰ·head, List·Memᴰ·tail, List·Memᴰ·cases-cons, List·Memᴰ·eq-of-singleton, List·Memᴰ·not-nil}
 use Rattle.lists.specs.declared.Found.the-variants.{At, Nothing}
 use Rattle.lists.specs.Search.{seek}
 use Rattle.lists.specs.Select.{range, member, without}
@@ -12,10 +12,10 @@ use Rattle.lists.proofs.Select.{range-e, range-i}
 use Rattle.lists.proofs.Sets.{member-i, member-absent, without-e, without-i}
 use Rattle.lists.proofs.Seek.{First, seek-found, seek-nothing, seek-first, seek-none}
 use Rattle.station.specs.Station.{Station}
-use Rattle.order.specs.Reach.{Path, unreached, connected, check9, check10}
-use Rattle.order.specs.Bipolar.{Off}
-use Rattle.order.proofs.Paths.{path-wider}
-use Rattle.order.proofs.Reach.{Among, reached, unreached-iff, AllJoined, Apart, connected-cases}
+use Rattle.order.specs.Reach.{Path, unreached, null, check9, separated, check10}
+use Rattle.order.specs.Bipolar.{Off, ReachesEnd, Bipolar}
+use Rattle.order.proofs.Paths.{path-wider, path-back}
+use Rattle.order.proofs.Reach.{Among, reached, unreached-iff, reached-from, unreached-from-iff}
 
 -- the lowest of the parts below n of which the property holds
 pub record Lowest (n : ℕ) (Bad : ℕ → Type 0) (p : ℕ) : Type 0 where
@@ -54,7 +54,7 @@ module _ (n : ℕ) (p : ℕ → Bool) (Bad Good : ℕ → Type 0) (decides : (x 
       go (inl h) = absurd (b (h .1))
       go (inr h) = h .0
 
-  at-iff : (x : ℕ) → (seek p 0 n ≡ At x) ↔ Lowest n Bad x
+  pub at-iff : (x : ℕ) → (seek p 0 n ≡ At x) ↔ Lowest n Bad x
   at-iff x = (λ e. to (seek-found p 0 n e), λ h. seek-first p 0 n (fro h))
     where
       to : First p 0 n x → Lowest n Bad x
@@ -74,7 +74,7 @@ module _ (n : ℕ) (p : ℕ → Bool) (Bad Good : ℕ → Type 0) (decides : (x 
             none = λ j a l. when-not-bad (omega (arith, h .part)) (h .lowest j l);
           }
 
-  nothing-iff : (seek p 0 n ≡ Nothing) ↔ ((x : ℕ) → x < n → Good x)
+  pub nothing-iff : (seek p 0 n ≡ Nothing) ↔ ((x : ℕ) → x < n → Good x)
   nothing-iff = (
     λ e x l. when-false l (seek-nothing p 0 n e x (omega arith) (omega arith)),
     λ h. seek-none p 0 n (λ j a b. when-not-bad (omega arith) (λ c. clash j c (h j (omega arith)))),
@@ -84,16 +84,23 @@ module _ (n : ℕ) (p : ℕ → Bool) (Bad Good : ℕ → Type 0) (decides : (x 
 abbrev pub Part : ℕ → ℕ → Type 0
 Part n x = x < n
 
+-- inside the station without part v, as a list of parts
+pub off-without : (n v x : ℕ) → Off n v x ↔ Among (without v (range n)) x
+off-without n v x = (
+  λ h. without-i v (range n) (range-i x n (h .0)) (h .1),
+  λ m. let h : List·Memᴰ x (range n) × (x ≡ v → ⊥) = without-e v (range n) m in (range-e n (h .0), h .1),
+)
+
 module _ (st : Station) where
   -- 9
 
   decides9 : (p : ℕ) → p < st .parts
-      → ((member p (unreached (st .cables) (range (st .parts)) 0) ≡ true) × (Path (st .cables) (Part (st .parts)) p 0 → ⊥))
-      ⊎ ((member p (unreached (st .cables) (range (st .parts)) 0) ≡ false) × Path (st .cables) (Part (st .parts)) p 0)
+      → ((member p (unreached (st .cables) (range (st .parts)) (0 ∷ [])) ≡ true) × (Path (st .cables) (Part (st .parts)) p 0 → ⊥))
+      ⊎ ((member p (unreached (st .cables) (range (st .parts)) (0 ∷ [])) ≡ false) × Path (st .cables) (Part (st .parts)) p 0)
   decides9 p l = go (reached (st .cables) (range (st .parts)) 0 (range-i p (st .parts) l))
     where
       left : List ℕ
-      left = unreached (st .cables) (range (st .parts)) 0
+      left = unreached (st .cables) (range (st .parts)) (0 ∷ [])
 
       go : List·Memᴰ p left ⊎ Path (st .cables) (Among (range (st .parts))) p 0
           → ((member p left ≡ true) × (Path (st .cables) (Part (st .parts)) p 0 → ⊥)) ⊎ ((member p left ≡ false) × Path (st .cables) (Part (st .parts)) p 0)
@@ -106,57 +113,98 @@ module _ (st : Station) where
   pub check9-at : (p : ℕ) → (check9 st ≡ At p) ↔ Lowest (st .parts) (λ q. Path (st .cables) (Part (st .parts)) q 0 → ⊥) p
   unfolding check9
   check9-at p =
-      at-iff (st .parts) (λ q. member q (unreached (st .cables) (range (st .parts)) 0)) (λ q. Path (st .cables) (Part (st .parts)) q 0 → ⊥)
+      at-iff (st .parts) (λ q. member q (unreached (st .cables) (range (st .parts)) (0 ∷ []))) (λ q. Path (st .cables) (Part (st .parts)) q 0 → ⊥)
       (λ q. Path (st .cables) (Part (st .parts)) q 0) decides9 (λ q b g. b g) p
 
   pub check9-nothing : (check9 st ≡ Nothing) ↔ ((p : ℕ) → p < st .parts → Path (st .cables) (Part (st .parts)) p 0)
   unfolding check9
   check9-nothing =
-      nothing-iff (st .parts) (λ q. member q (unreached (st .cables) (range (st .parts)) 0)) (λ q. Path (st .cables) (Part (st .parts)) q 0 → ⊥)
+      nothing-iff (st .parts) (λ q. member q (unreached (st .cables) (range (st .parts)) (0 ∷ []))) (λ q. Path (st .cables) (Part (st .parts)) q 0 → ⊥)
       (λ q. Path (st .cables) (Part (st .parts)) q 0) decides9 (λ q b g. b g)
 
   -- 10
 
-  -- the removal of part v leaves two others without a path: v is a cut vertex
-  abbrev pub Cuts : ℕ → Type 0
-  Cuts v = (a b : ℕ) × Off (st .parts) v a × Off (st .parts) v b × (Path (st .cables) (Off (st .parts) v) b a → ⊥)
+  -- the removal of v leaves some other part 'that reaches neither s nor t'
+  abbrev pub SeparatesSome : ℕ → Type 0
+  SeparatesSome v = (p : ℕ) × Off (st .parts) v p × (ReachesEnd st v p → ⊥)
 
-  -- without part v any two others have a path
-  abbrev pub Keeps : ℕ → Type 0
-  Keeps v = (a b : ℕ) → Off (st .parts) v a → Off (st .parts) v b → Path (st .cables) (Off (st .parts) v) b a
+  -- it leaves none
+  abbrev SeparatesNone : ℕ → Type 0
+  SeparatesNone v = (p : ℕ) → Off (st .parts) v p → ReachesEnd st v p
+
+  module _ (v : ℕ) where
+    abbrev others : List ℕ
+    others = without v (range (st .parts))
+
+    abbrev ends : List ℕ
+    ends = st .source ∷ st .analyser ∷ []
+
+    to-end : {e p : ℕ} → Path (st .cables) (Among others) p e → Path (st .cables) (Off (st .parts) v) e p
+    to-end r = path-back (st .cables) (path-wider (st .cables) (λ x m. off-without (st .parts) v x .1 m) r)
+
+    from-end : {e p : ℕ} → Path (st .cables) (Off (st .parts) v) e p → Path (st .cables) (Among others) p e
+    from-end r = path-back (st .cables) (path-wider (st .cables) (λ x h. off-without (st .parts) v x .0 h) r)
+
+    reaches-end : {p : ℕ} → (u : ℕ) × List·Memᴰ u ends × Path (st .cables) (Among others) p u → ReachesEnd st v p
+    reaches-end {p} h = go (List·Memᴰ·cases-cons (h .1))
+      where
+        go : (h .0 ≡ st .source) ⊎ List·Memᴰ (h .0) (st .analyser ∷ []) → ReachesEnd st v p
+        go (inl e) = inl (to-end (subst (Path (st .cables) (Among others) p) e (h .2)))
+        go (inr m) = inr (to-end (subst (Path (st .cables) (Among others) p) (List·Memᴰ·eq-of-singleton m) (h .2)))
+
+    -- the parts that v separates from both ends, in terms of paths
+    pub separated-iff : (p : ℕ) → List·Memᴰ p (separated st v) ↔ (Off (st .parts) v p × (ReachesEnd st v p → ⊥))
+    unfolding separated
+    separated-iff p = (to, fro)
+      where
+        to : List·Memᴰ p (unreached (st .cables) others ends) → Off (st .parts) v p × (ReachesEnd st v p → ⊥)
+        to m = (off-without (st .parts) v p .1 (h .0), none)
+          where
+            h : List·Memᴰ p others × ((u : ℕ) → List·Memᴰ u ends → Path (st .cables) (Among others) p u → ⊥)
+            h = unreached-from-iff (st .cables) others ends p .0 m
+
+            none : ReachesEnd st v p → ⊥
+            none (inl r) = h .1 (st .source) (List·Memᴰ·head refl) (from-end r)
+            none (inr r) = h .1 (st .analyser) (List·Memᴰ·tail (List·Memᴰ·head refl)) (from-end r)
+
+        fro : Off (st .parts) v p × (ReachesEnd st v p → ⊥) → List·Memᴰ p (unreached (st .cables) others ends)
+        fro h =
+            unreached-from-iff (st .cables) others ends p .1
+            (off-without (st .parts) v p .0 (h .0), λ u m r. h .1 (reaches-end (u, m, r)))
+
+    -- of another part: v separates it, or it reaches an end
+    pub separated-or : (p : ℕ) → Off (st .parts) v p → List·Memᴰ p (separated st v) ⊎ ReachesEnd st v p
+    unfolding separated
+    separated-or p h = go (reached-from (st .cables) others ends (off-without (st .parts) v p .0 h))
+      where
+        go : List·Memᴰ p (unreached (st .cables) others ends) ⊎ ((u : ℕ) × List·Memᴰ u ends × Path (st .cables) (Among others) p u)
+            → List·Memᴰ p (unreached (st .cables) others ends) ⊎ ReachesEnd st v p
+        go (inl m) = inl m
+        go (inr r) = inr (reaches-end r)
+
+    null-cases : (l : List ℕ) → separated st v ≡ l
+        → ((not (null (separated st v)) ≡ true) × SeparatesSome v) ⊎ ((not (null (separated st v)) ≡ false) × SeparatesNone v)
+    unfolding null
+    null-cases [] e = inr (ap (λ (l : List ℕ). not (null l)) e, λ p h. go p (separated-or p h))
+      where
+        go : (p : ℕ) → List·Memᴰ p (separated st v) ⊎ ReachesEnd st v p → ReachesEnd st v p
+        go p (inl m) = absurd (List·Memᴰ·not-nil (subst (List·Memᴰ p) e m))
+        go p (inr r) = r
+    null-cases (x ∷ xs) e =
+        let h = separated-iff x .0 (subst (List·Memᴰ x) (sym e) (List·Memᴰ·head refl)) in
+        inl (ap (λ (l : List ℕ). not (null l)) e, (x, h .0, h .1))
 
   decides10 : (v : ℕ) → v < st .parts
-      → ((not (connected (st .cables) (without v (range (st .parts)))) ≡ true) × Cuts v)
-      ⊎ ((not (connected (st .cables) (without v (range (st .parts)))) ≡ false) × Keeps v)
-  decides10 v l = go (connected-cases (st .cables) rest)
-    where
-      rest : List ℕ
-      rest = without v (range (st .parts))
+      → ((not (null (separated st v)) ≡ true) × SeparatesSome v) ⊎ ((not (null (separated st v)) ≡ false) × SeparatesNone v)
+  decides10 v l = null-cases v (separated st v) refl
 
-      in-rest : (x : ℕ) → Off (st .parts) v x → Among rest x
-      in-rest x h = without-i v (range (st .parts)) (range-i x (st .parts) (h .0)) (h .1)
-
-      off : (x : ℕ) → Among rest x → Off (st .parts) v x
-      off x m = let h : List·Memᴰ x (range (st .parts)) × (x ≡ v → ⊥) = without-e v (range (st .parts)) m in (range-e (st .parts) (h .0), h .1)
-
-      go : ((connected (st .cables) rest ≡ true) × AllJoined (st .cables) rest) ⊎ ((connected (st .cables) rest ≡ false) × Apart (st .cables) rest)
-          → ((not (connected (st .cables) rest) ≡ true) × Cuts v) ⊎ ((not (connected (st .cables) rest) ≡ false) × Keeps v)
-      go (inl h) = inr (ap not (h .0), λ a b p q. path-wider (st .cables) off (h .1 a b (in-rest a p) (in-rest b q)))
-      go (inr h) =
-          inl (
-            ap not (h .0),
-            (h .1 .0, h .1 .1, off (h .1 .0) (h .1 .2), off (h .1 .1) (h .1 .3), λ r. h .1 .4 (path-wider (st .cables) in-rest r)),
-          )
-
-  -- 'a part whose removal leaves two others without a path', 'lowest such part'
-  pub check10-at : (v : ℕ) → (check10 st ≡ At v) ↔ Lowest (st .parts) Cuts v
+  -- 'a part whose removal leaves some other part that reaches neither s nor t', 'lowest such part'
+  pub check10-at : (v : ℕ) → (check10 st ≡ At v) ↔ Lowest (st .parts) SeparatesSome v
   unfolding check10
-  check10-at v =
-      at-iff (st .parts) (λ u. not (connected (st .cables) (without u (range (st .parts))))) Cuts Keeps decides10
-      (λ u c k. c .4 (k (c .0) (c .1) (c .2) (c .3))) v
+  check10-at v = at-iff (st .parts) (λ u. not (null (separated st u))) SeparatesSome SeparatesNone decides10 (λ u c k. c .2 (k (c .0) (c .1))) v
 
-  pub check10-nothing : (check10 st ≡ Nothing) ↔ ((v : ℕ) → v < st .parts → Keeps v)
+  pub check10-nothing : (check10 st ≡ Nothing) ↔ Bipolar st
   unfolding check10
   check10-nothing =
-      nothing-iff (st .parts) (λ u. not (connected (st .cables) (without u (range (st .parts))))) Cuts Keeps decides10
-      (λ u c k. c .4 (k (c .0) (c .1) (c .2) (c .3)))
+      let iff = nothing-iff (st .parts) (λ u. not (null (separated st u))) SeparatesSome SeparatesNone decides10 (λ u c k. c .2 (k (c .0) (c .1))) in
+      (λ e v p l m n. iff .0 e v l p (m, n), λ B. iff .1 (λ v l p h. B v p l (h .0) (h .1)))

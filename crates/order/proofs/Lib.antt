@@ -6,13 +6,16 @@ pub mod Paths
 pub mod Reach
 pub mod Checks
 pub mod AllChecks
+pub mod CutParts
 pub mod Bipolar
 pub mod Candidates
 pub mod Completion
 pub mod StOrder
+pub mod StOrderings
 pub mod Rule
 pub mod Ranks
 pub mod Graphs
 pub mod Orientation
 pub mod Passed
+pub mod SeparatingParts
 pub mod Triangle

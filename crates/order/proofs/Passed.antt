@@ -20,7 +20,8 @@ use Rattle.order.specs.StOrder.{StOrdering, Smallest}
 use Rattle.order.specs.RankedGraphs.{Ranked}
 use Rattle.order.specs.Graph.{EndsOnce}
 use Rattle.order.specs.Orientation.{graphOf}
-use Rattle.order.proofs.Bipolar.{Orderable, bipolar-of-check10}
+use Rattle.order.proofs.Checks.{check10-nothing}
+use Rattle.order.proofs.Bipolar.{Orderable}
 use Rattle.order.proofs.StOrder.{order-ordering, order-smallest}
 use Rattle.order.proofs.Ranks.{order-ranked}
 use Rattle.order.proofs.Orientation.{ranks-once}
@@ -50,7 +51,7 @@ module _ (list : List ℕ) (pass : Clear allChecks list) where
   list-wired = wired list (clear-8 list pass)
 
   pub list-orderable : Orderable (stationOf list)
-  list-orderable = record { wired = list-wired; bipolar = bipolar-of-check10 (stationOf list) list-wired (clear-10 list pass) }
+  list-orderable = record { wired = list-wired; bipolar = check10-nothing (stationOf list) .0 (clear-10 list pass) }
 
   -- 'the result is the st-ordering from s to t'
   pub list-ordering : StOrdering (stationOf list) (order (stationOf list))

@@ -124,27 +124,40 @@ module _ (cs : List Cable) where
           after (inl h) = inl h
           after (inr h) = inr (h .0, List·Memᴰ·tail (h .1), h .2)
 
-  -- Of a part of the set: it is unreached, or there is a path to it.
-  pub reached : {p : ℕ} (set : List ℕ) (u : ℕ) → List·Memᴰ p set → List·Memᴰ p (unreached cs set u) ⊎ Path cs (Among set) p u
+  -- Of a part of the set: it is unreached, or there is a path to it from a start.
+  pub reached-from : {p : ℕ} (set starts : List ℕ) → List·Memᴰ p set
+      → List·Memᴰ p (unreached cs set starts) ⊎ ((u : ℕ) × List·Memᴰ u starts × Path cs (Among set) p u)
   unfolding unreached
-  reached {p} set u m = go (walk-some (endsAt cs set + 1) (u ∷ []) set m)
+  reached-from set starts m = walk-some (endsAt cs set + length starts) starts set m
+
+  -- What is unreached has no path from any start.
+  pub unreached-from-iff : (set starts : List ℕ) (p : ℕ)
+      → List·Memᴰ p (unreached cs set starts) ↔ (List·Memᴰ p set × ((u : ℕ) → List·Memᴰ u starts → Path cs (Among set) p u → ⊥))
+  unfolding unreached
+  unreached-from-iff set starts p = (
+    λ m. (walk-sub (endsAt cs set + length starts) starts set m, λ u h r. walk-none (endsAt cs set + length starts) starts set (omega arith) m h r),
+    λ h. go (h .1) (reached-from set starts (h .0)),
+  )
     where
-      go : List·Memᴰ p (walk cs (endsAt cs set + 1) (u ∷ []) set) ⊎ ((v : ℕ) × List·Memᴰ v (u ∷ []) × Path cs (Among set) p v)
-          → List·Memᴰ p (walk cs (endsAt cs set + 1) (u ∷ []) set) ⊎ Path cs (Among set) p u
+      go : ((u : ℕ) → List·Memᴰ u starts → Path cs (Among set) p u → ⊥)
+          → List·Memᴰ p (unreached cs set starts) ⊎ ((u : ℕ) × List·Memᴰ u starts × Path cs (Among set) p u) → List·Memᴰ p (unreached cs set starts)
+      go n (inl h) = h
+      go n (inr r) = absurd (n (r .0) (r .1) (r .2))
+
+  -- The same with one start.
+  pub reached : {p : ℕ} (set : List ℕ) (u : ℕ) → List·Memᴰ p set → List·Memᴰ p (unreached cs set (u ∷ [])) ⊎ Path cs (Among set) p u
+  reached {p} set u m = go (reached-from set (u ∷ []) m)
+    where
+      go : List·Memᴰ p (unreached cs set (u ∷ [])) ⊎ ((v : ℕ) × List·Memᴰ v (u ∷ []) × Path cs (Among set) p v)
+          → List·Memᴰ p (unreached cs set (u ∷ [])) ⊎ Path cs (Among set) p u
       go (inl h) = inl h
       go (inr h) = inr (subst (Path cs (Among set) p) (List·Memᴰ·eq-of-singleton (h .1)) (h .2))
 
-  -- 'that part u doesn't reach': inside the set there is no path from u.
-  pub unreached-iff : (set : List ℕ) (u p : ℕ) → List·Memᴰ p (unreached cs set u) ↔ (List·Memᴰ p set × (Path cs (Among set) p u → ⊥))
-  unfolding unreached
+  pub unreached-iff : (set : List ℕ) (u p : ℕ) → List·Memᴰ p (unreached cs set (u ∷ [])) ↔ (List·Memᴰ p set × (Path cs (Among set) p u → ⊥))
   unreached-iff set u p = (
-    λ m. (walk-sub (endsAt cs set + 1) (u ∷ []) set m, λ r. walk-none (endsAt cs set + 1) (u ∷ []) set (omega arith) m (List·Memᴰ·head refl) r),
-    λ h. go (h .1) (reached set u (h .0)),
+    λ m. let h = unreached-from-iff set (u ∷ []) p .0 m in (h .0, h .1 u (List·Memᴰ·head refl)),
+    λ h. unreached-from-iff set (u ∷ []) p .1 (h .0, λ v m r. h .1 (subst (Path cs (Among set) p) (List·Memᴰ·eq-of-singleton m) r)),
   )
-    where
-      go : (Path cs (Among set) p u → ⊥) → List·Memᴰ p (unreached cs set u) ⊎ Path cs (Among set) p u → List·Memᴰ p (unreached cs set u)
-      go n (inl h) = h
-      go n (inr r) = absurd (n r)
 
   -- any two of the set have a path inside it
   abbrev pub AllJoined : List ℕ → Type 0
@@ -154,15 +167,15 @@ module _ (cs : List Cable) where
   abbrev pub Apart : List ℕ → Type 0
   Apart set = (u v : ℕ) × List·Memᴰ u set × List·Memᴰ v set × (Path cs (Among set) v u → ⊥)
 
-  null-unreached : (p : ℕ) (ps l : List ℕ) → unreached cs (p ∷ ps) p ≡ l
-      → ((null (unreached cs (p ∷ ps) p) ≡ true) × AllJoined (p ∷ ps)) ⊎ ((null (unreached cs (p ∷ ps) p) ≡ false) × Apart (p ∷ ps))
+  null-unreached : (p : ℕ) (ps l : List ℕ) → unreached cs (p ∷ ps) (p ∷ []) ≡ l
+      → ((null (unreached cs (p ∷ ps) (p ∷ [])) ≡ true) × AllJoined (p ∷ ps)) ⊎ ((null (unreached cs (p ∷ ps) (p ∷ [])) ≡ false) × Apart (p ∷ ps))
   unfolding null
   null-unreached p ps [] e = inl (ap null e, λ u v m n. path-on cs (path-back cs (to u m (reached set p m))) (to v n (reached set p n)))
     where
       set : List ℕ
       set = p ∷ ps
 
-      to : (x : ℕ) → List·Memᴰ x set → List·Memᴰ x (unreached cs set p) ⊎ Path cs (Among set) x p → Path cs (Among set) x p
+      to : (x : ℕ) → List·Memᴰ x set → List·Memᴰ x (unreached cs set (p ∷ [])) ⊎ Path cs (Among set) x p → Path cs (Among set) x p
       to x m (inl h) = absurd (List·Memᴰ·not-nil (subst (List·Memᴰ x) e h))
       to x m (inr r) = r
   null-unreached p ps (x ∷ xs) e = inr (ap null e, (p, x, List·Memᴰ·head refl, h .0, h .1))
@@ -177,7 +190,7 @@ module _ (cs : List Cable) where
   pub connected-cases : (set : List ℕ) → ((connected cs set ≡ true) × AllJoined set) ⊎ ((connected cs set ≡ false) × Apart set)
   unfolding connected
   connected-cases [] = inl (refl, λ u v m n. absurd (List·Memᴰ·not-nil m))
-  connected-cases (p ∷ ps) = null-unreached p ps (unreached cs (p ∷ ps) p) refl
+  connected-cases (p ∷ ps) = null-unreached p ps (unreached cs (p ∷ ps) (p ∷ [])) refl
 
   -- 'joined to each other by paths among themselves'
   pub connected-iff : (set : List ℕ) → (connected cs set ≡ true) ↔ AllJoined set

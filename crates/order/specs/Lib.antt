@@ -8,3 +8,4 @@ pub mod Orientation
 pub mod Checks
 -- What only laws and the contracts of code cite
 pub mod RankedGraphs
+pub mod CutParts

@@ -1,4 +1,4 @@
--- Paths among parts, and checks 9 and 10 of document 01. Assumes nothing.
+-- Paths among parts, check 9 of document 01 and check 10 of request 2026-14. Assumes nothing.
 use Prim.Native.Nat.{ℕ, zero, suc, _+_}
 use mathlib.Core.Path.{_≡_}
 use mathlib.Core.Bool.{Bool, true, false, cond, not}
@@ -39,9 +39,9 @@ walk cs (suc k) (p ∷ todo) left =
     let fresh = member p left in
     walk cs k (cond fresh (neighbours cs p ++ todo) todo) (cond fresh (without p left) left)
 
--- the parts of a set that part p does not reach inside the set
-unfoldable pub unreached : List Cable → List ℕ → ℕ → List ℕ
-unreached cs set p = walk cs (endsAt cs set + 1) (p ∷ []) set
+-- the parts of a set that none of the starts reaches inside the set; a start outside the set reaches nothing
+unfoldable pub unreached : List Cable → List ℕ → List ℕ → List ℕ
+unreached cs set starts = walk cs (endsAt cs set + length starts) starts set
 
 unfoldable pub null : List ℕ → Bool
 null [] = true
@@ -50,12 +50,17 @@ null (x ∷ xs) = false
 -- a set whose parts are 'joined to each other by paths among themselves': its first part reaches them all
 unfoldable pub connected : List Cable → List ℕ → Bool
 connected cs [] = true
-connected cs (p ∷ ps) = null (unreached cs (p ∷ ps) p)
+connected cs (p ∷ ps) = null (unreached cs (p ∷ ps) (p ∷ []))
 
 -- 9: 'a part that part 0 doesn't reach', 'lowest such part'
 unfoldable pub check9 : Station → Found
-check9 st = let left = unreached (st .cables) (range (st .parts)) 0 in seek (λ p. member p left) 0 (st .parts)
+check9 st = let left = unreached (st .cables) (range (st .parts)) (0 ∷ []) in seek (λ p. member p left) 0 (st .parts)
 
--- 10: 'a part whose removal leaves two others without a path', 'lowest such part'
+-- the parts that v separates from both ends: the other parts that reach, without v, 'neither s nor t, whichever of them remain'. Where v is
+-- s or t, it is outside the set and reaches nothing.
+unfoldable pub separated : Station → ℕ → List ℕ
+separated st v = unreached (st .cables) (without v (range (st .parts))) (st .source ∷ st .analyser ∷ [])
+
+-- 10 (2026-14): 'a part whose removal leaves some other part that reaches neither s nor t', 'lowest such part'
 unfoldable pub check10 : Station → Found
-check10 st = seek (λ v. not (connected (st .cables) (without v (range (st .parts))))) 0 (st .parts)
+check10 st = seek (λ v. not (null (separated st v))) 0 (st .parts)

@@ -1,73 +1,25 @@
 -- Laws of the tests of the next part, by flags: those that need no walk, and all of them. Assumes nothing.
-use Prim.Native.Nat.{ℕ, _+_, _*_, _^_, _<_, _≤_}
-use native.Mathlib.Omega.{arith}
+use Prim.Native.Nat.{ℕ, _<_}
 use mathlib.Core.Path.{_≡_, refl, sym, ap, _∙_}
-use mathlib.Core.Bool.{Bool, true, false, not, _&&_, false≢true}
+use mathlib.Core.Bool.{Bool, Bool·beq, true, false, not, _&&_, false≢true}
 use mathlib.Core.List.{List}
-use lib.ListN.{length, getD, drop}
+use lib.ListN.{getD}
 use lib.Dec.{eqb}
 use borrow.Author.Tests.{eqb-false, eq-eqb, ne-eqb, not-true, not-false}
-use Rattle.words.specs.Limits.{mostDegree, mostParts}
-use Rattle.words.specs.Rooms.{neighbourPlaces}
 use Rattle.lists.specs.declared.Found.{Found}
 use Rattle.lists.specs.declared.Found.the-variants.{At, Nothing}
 use Rattle.lists.specs.Search.{isFound}
 use Rattle.lists.specs.Select.{member, any, without}
-use Rattle.lists.proofs.Filters.{any-here, any-next, any-end, any-same}
+use Rattle.lists.proofs.Filters.{any-same}
 use Rattle.station.specs.Station.{stationOf}
 use Rattle.order.specs.Reach.{neighbours, connected}
 use Rattle.order.specs.Order.{candidate}
-use Rattle.reachability.specs.Tables.{neighboursIn, TableFits, Adjacent, setOf, CutOff}
-use Rattle.ordering.specs.Choices.{Witnesses, bordering, knownSeparator, mayBeNext, eligible}
+use Rattle.reachability.specs.Tables.{hasNeighbour, Adjacent, setOf, CutOff}
+use Rattle.ordering.specs.Choices.{Witnesses, knownSeparator, mayBeNext, eligible}
 use Rattle.order.proofs.Reach.{connected-iff}
 use Rattle.reachability.proofs.Flags.{member-flagged}
-use Rattle.reachability.proofs.AdjacencyTable.{neighbours-length, neighbours-at, joined-inside}
+use Rattle.reachability.proofs.AdjacencyTable.{joined-inside}
 use Rattle.ordering.proofs.Witnesses.{witness-holds}
-
--- A ranked neighbour
-
--- what the neighbours from place j on say is what all of them say
-pub record Bordering (table : List ℕ) (flags : List Bool) (w d j : ℕ) : Type 0 where
-  pub formed : TableFits table
-  pub inside : w < mostParts
-  pub count : d ≡ getD table (neighbourPlaces + w) 0
-  pub few : d ≤ mostDegree
-  pub place : j ≤ d
-  pub rest : any (λ q. not (getD flags q false)) (drop j (neighboursIn table w)) ≡ bordering table flags w
-
-pub bordering-start : {table : List ℕ} (flags : List Bool) {w : ℕ} → TableFits table → w < mostParts → Bordering table flags w (getD table (neighbourPlaces + w) 0) 0
-unfolding bordering
-bordering-start flags {w} F h = record { formed = F; inside = h; count = refl; few = F .few w; place = omega arith; rest = refl }
-
-module _ {table : List ℕ} {flags : List Bool} {w d j : ℕ} (B : Bordering table flags w d j) where
-  pub neighbour-below : getD table (mostDegree * w + j) 0 < mostParts
-  neighbour-below = B .formed .inside (mostDegree * w + j)
-
-  pub neighbour-fits : getD table (mostDegree * w + j) 0 < 2 ^ 64
-  neighbour-fits = omega (arith, neighbour-below)
-
-  length-is : length (neighboursIn table w) ≡ d
-  length-is = neighbours-length (B .formed) (B .inside) ∙ sym (B .count)
-
-  at-place : j < d → (b : Bool) → not (getD flags (getD table (mostDegree * w + j) 0) false) ≡ b → not (getD flags (getD (neighboursIn table w) j 0) false) ≡ b
-  at-place g b e = ap (λ (q : ℕ). not (getD flags q false)) (neighbours-at (B .formed) (B .inside) j (omega (arith, B .count))) ∙ e
-
-  pub bordering-here : j < d → not (getD flags (getD table (mostDegree * w + j) 0) false) ≡ true → true ≡ bordering table flags w
-  bordering-here g e = sym (any-here (λ q. not (getD flags q false)) (neighboursIn table w) j 0 (omega (arith, length-is)) (at-place g true e)) ∙ B .rest
-
-  pub bordering-next : j < d → not (getD flags (getD table (mostDegree * w + j) 0) false) ≡ false → Bordering table flags w d (j + 1)
-  bordering-next g e =
-      record {
-        formed = B .formed;
-        inside = B .inside;
-        count = B .count;
-        few = B .few;
-        place = omega arith;
-        rest = sym (any-next (λ q. not (getD flags q false)) (neighboursIn table w) j 0 (omega (arith, length-is)) (at-place g false e)) ∙ B .rest;
-      }
-
-  pub bordering-end : d ≤ j → false ≡ bordering table flags w
-  bordering-end g = sym (any-end (λ q. not (getD flags q false)) (neighboursIn table w) j 0 (omega (arith, length-is))) ∙ B .rest
 
 -- A known separator
 
@@ -100,11 +52,15 @@ module _ (list table : List ℕ) (flags : List Bool) (witness : List ℕ) (w : �
       unfolding mayBeNext
       next-known e = rw (not-false (getD flags w false) u, other, ← ek, e) refl
 
-      pub next-open : {b : Bool} → k ≡ false → b ≡ bordering table flags w → b ≡ mayBeNext list table flags witness w
+      pub next-open : {b : Bool} → k ≡ false → b ≡ hasNeighbour table flags w false → b ≡ mayBeNext list table flags witness w
       unfolding mayBeNext
       next-open e f = f ∙ rw (not-false (getD flags w false) u, other, ← ek, e) refl
 
 -- The tests together
+
+is-false : (b : Bool) → Bool·beq b false ≡ not b
+is-false true = refl
+is-false false = refl
 
 some-false : (a b c d e : Bool) → (a && b && not c && d) ≡ false → (a ≡ true → b ≡ true → c ≡ true → e ≡ false) → false ≡ (a && (b && d && e))
 some-false false b c d e f h = refl
@@ -127,11 +83,12 @@ module _ {list table : List ℕ} {flags : List Bool} {witness : List ℕ} {w : �
   abbrev rest : List ℕ
   rest = without w (setOf list flags)
 
-  neighbours-border : bordering table flags w ≡ any (λ q. not (member q (setOf list flags))) (neighbours (stationOf list .cables) w)
-  unfolding bordering
+  neighbours-border : hasNeighbour table flags w false ≡ any (λ q. not (member q (setOf list flags))) (neighbours (stationOf list .cables) w)
+  unfolding hasNeighbour
   neighbours-border =
-      ap (any (λ q. not (getD flags q false))) (A .by-line w)
-      ∙ any-same _ _ (neighbours (stationOf list .cables) w) (λ q m. ap not (sym (member-flagged (stationOf list .parts) flags q (joined-inside (A .wired) w m))))
+      ap (any (λ q. Bool·beq (getD flags q false) false)) (A .by-line w)
+      ∙ any-same _ _ (neighbours (stationOf list .cables) w)
+      (λ q m. is-false (getD flags q false) ∙ ap not (sym (member-flagged (stationOf list .parts) flags q (joined-inside (A .wired) w m))))
 
   known-cuts : getD flags w false ≡ true → not (eqb w (stationOf list .analyser)) ≡ true → knownSeparator list flags witness w ≡ true → connected (stationOf list .cables) rest ≡ false
   known-cuts fw ne k = go (connected (stationOf list .cables) rest) refl
@@ -146,14 +103,14 @@ module _ {list table : List ℕ} {flags : List Bool} {witness : List ℕ} {w : �
   unfolding mayBeNext eligible candidate
   eligible-not e =
       rw (← neighbours-border)
-      (some-false (getD flags w false) (not (eqb w (stationOf list .analyser))) (knownSeparator list flags witness w) (bordering table flags w)
+      (some-false (getD flags w false) (not (eqb w (stationOf list .analyser))) (knownSeparator list flags witness w) (hasNeighbour table flags w false)
       (connected (stationOf list .cables) rest) (sym er ∙ not-true r e) known-cuts)
 
   eligible-walk : not r ≡ false → connected (stationOf list .cables) rest ≡ eligible list flags w
   unfolding mayBeNext eligible candidate
   eligible-walk e =
       rw (← neighbours-border)
-      (all-true (getD flags w false) (not (eqb w (stationOf list .analyser))) (knownSeparator list flags witness w) (bordering table flags w)
+      (all-true (getD flags w false) (not (eqb w (stationOf list .analyser))) (knownSeparator list flags witness w) (hasNeighbour table flags w false)
       (connected (stationOf list .cables) rest) (sym er ∙ not-false r e))
 
   -- after the walk

@@ -7,11 +7,11 @@ use mathlib.Core.List.{List, List·Memᴰ}
 use lib.ListN.{length, getD}
 use lib.Dec.{eqb}
 use Rattle.words.specs.Limits.{mostParts}
-use Rattle.lists.specs.Select.{any, without}
+use Rattle.lists.specs.Select.{without}
 use Rattle.station.specs.Station.{stationOf}
 use Rattle.order.specs.Reach.{Path}
 use Rattle.order.specs.Order.{candidate, firstOr}
-use Rattle.reachability.specs.Tables.{neighboursIn, setOf}
+use Rattle.reachability.specs.Tables.{hasNeighbour, setOf}
 
 -- w separates q from t among the unranked parts: q is another part, and without w has no path to t
 pub record Separates (list : List ℕ) (unranked : List Bool) (w q : ℕ) : Type 0 where
@@ -25,19 +25,15 @@ pub record Witnesses (list : List ℕ) (unranked : List Bool) (witness : List �
   pub separated : (w : ℕ) → List·Memᴰ w (setOf list unranked) → List·Memᴰ (getD witness w 0) (setOf list unranked)
       → Separates list unranked w (getD witness w 0)
 
--- part w is joined to a ranked part
-unfoldable pub bordering : List ℕ → List Bool → ℕ → Bool
-bordering table unranked w = any (λ q. not (getD unranked q false)) (neighboursIn table w)
-
 -- an unranked part w is known to separate its witness from t: both are unranked
 unfoldable pub knownSeparator : List ℕ → List Bool → List ℕ → ℕ → Bool
 knownSeparator list unranked witness w = getD unranked (stationOf list .analyser) false && getD unranked (getD witness w 0) false
 
--- the tests of a candidate that need no walk
+-- the tests of a candidate that need no walk; it 'is joined to a ranked part' where a neighbour is not unranked
 unfoldable pub mayBeNext : List ℕ → List ℕ → List Bool → List ℕ → ℕ → Bool
 mayBeNext list table unranked witness w =
     getD unranked w false && not (eqb w (stationOf list .analyser))
-    && not (knownSeparator list unranked witness w) && bordering table unranked w
+    && not (knownSeparator list unranked witness w) && hasNeighbour table unranked w false
 
 -- part w is unranked and a candidate
 unfoldable pub eligible : List ℕ → List Bool → ℕ → Bool

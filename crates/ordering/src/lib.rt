@@ -2,13 +2,12 @@
 // t, that one is its witness: fewer unranked parts make no new path, so that it needs no other walk until its witness is ranked.
 use listing::fields;
 use lists::Found;
-use reachability::adjacency::DEGREES;
+use reachability::adjacency;
 use reachability::adjacency::Table;
 use reachability::walk;
 use reachability::walk::Stack;
 use words::Part;
 use words::Rank;
-use words::limits::MOST_DEGREE;
 use words::limits::MOST_PARTS;
 ghost use mathlib.Core.Path.{_≡_};
 ghost use Prim.Native.Nat.{ℕ, _<_, _≤_};
@@ -19,27 +18,8 @@ ghost use Rattle.station.specs.Station.{stationOf};
 ghost use Rattle.station.specs.Code.{Wired};
 ghost use Rattle.order.specs.Order.{order};
 ghost use Rattle.ordering.specs.Numbers.{partNumbers, RanksOf};
-ghost use Rattle.reachability.specs.Tables.{TableFits, Adjacent};
-ghost use Rattle.ordering.specs.Choices.{Witnesses, bordering, knownSeparator, mayBeNext, eligible, chosenPart};
-
-// Part w is joined to a ranked part.
-fn borders(table: &Table, unranked: &[bool; MOST_PARTS], w: Part) -> bool
-    requires { ⌜ TableFits (now table) ⌝ }
-    requires { ⌜ w .0 < mostParts ⌝ }
-    ensures { λ r. ⌜ r ≡ bordering (now (table .entry)) (now (unranked .entry)) (w .0) ⌝ }
-{
-    let i = w.0 as usize;
-    let d = table[DEGREES + i] as usize;
-    let mut j = 0;
-    while j < d {
-        let q = table[MOST_DEGREE * i + j] as usize;
-        if !unranked[q] {
-            return true;
-        }
-        j += 1;
-    }
-    false
-}
+ghost use Rattle.reachability.specs.Tables.{Adjacent};
+ghost use Rattle.ordering.specs.Choices.{Witnesses, knownSeparator, mayBeNext, eligible, chosenPart};
 
 // Part w is known to separate its witness from t: both are unranked.
 fn is_known_separator(
@@ -81,7 +61,7 @@ fn may_be_next(
     if is_known_separator(list, unranked, witness, w) {
         return false;
     }
-    borders(table, unranked, w)
+    adjacency::has_neighbour(table, unranked, w, false)
 }
 
 // Part w is unranked and a candidate. A part that it separates from t becomes its witness.

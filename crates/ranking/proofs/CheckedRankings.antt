@@ -17,6 +17,10 @@ use Rattle.ranking.specs.declared.Ranking.{Ranking}
 use Rattle.ranking.specs.declared.CheckedRanking.{CheckedRanking}
 use Rattle.ranking.specs.Ranking.{RankingOf, Checked}
 
+-- what a check is known to find
+pub finds-nothing : {found check : Found} → found ≡ check → found ≡ Nothing → check ≡ Nothing
+finds-nothing e f = sym e ∙ f
+
 module _ (list : List ℕ) where
   -- a refusal has no order
   refused : {c : CheckedRanking} {check place : ℕ} → firstRefusal allChecks list ≡ Refused check place → c .verdict ≡ Refused check place → Checked list c

@@ -7,7 +7,7 @@ use ordering::order_parts;
 use ordering::ranks_of;
 use reachability::adjacency;
 use reachability::adjacency::Table;
-use reachability::cut_part;
+use reachability::separating_part;
 use reachability::unreached_part;
 use reachability::walk::Stack;
 use words::Part;
@@ -89,7 +89,7 @@ fn rank_station(list: &[u32]) -> CheckedRanking
     if let Found::At(place) = unreached_part(list, &table, &mut stack) {
         return refused(9, place);
     }
-    if let Found::At(place) = cut_part(list, &table, &mut stack) {
+    if let Found::At(place) = separating_part(list, &table, &mut stack) {
         return refused(10, place);
     }
     CheckedRanking {

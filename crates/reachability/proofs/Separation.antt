@@ -4,14 +4,13 @@ use native.Mathlib.Omega.{arith}
 use mathlib.Core.Path.{_≡_, refl, sym, ap, _∙_, subst}
 use mathlib.Core.Logic.{_⊎_, inl, inr}
 use mathlib.Core.Bool.{Bool, Bool·beq, true, false, not, false≢true}
-use mathlib.Core.List.{List, List·Memᴰ}
+use mathlib.Core.List.{List, [], _∷_, List·Memᴰ}
 use lib.ListN.{getD, set}
 use Rattle.lists.specs.declared.Found.{Found}
 use Rattle.lists.specs.declared.Found.the-variants.{At, Nothing}
 use Rattle.lists.specs.Search.{seek}
 use Rattle.lists.specs.Select.{without}
 use Rattle.lists.proofs.Select.{getD-mem}
-use Rattle.lists.proofs.Filters.{front}
 use Rattle.lists.proofs.Seek.{seek-found}
 use Rattle.lists.proofs.Sets.{without-e}
 use Rattle.station.specs.Station.{stationOf}
@@ -24,7 +23,7 @@ use Rattle.words.specs.Limits.{mostDegree, mostParts}
 use Rattle.words.specs.Rooms.{neighbourPlaces}
 use Rattle.reachability.proofs.AdjacencyTable.{neighbours-length, neighbours-at, joined-inside}
 use Rattle.reachability.proofs.Flags.{flagged-e, flagged-i, without-flagged, front-flagged}
-use Rattle.reachability.proofs.Connected.{front-mem, connected-empty, connected-from, null-none, null-some, null-mem}
+use Rattle.reachability.proofs.Connected.{front-mem, connected-empty, connected-from, null-none, null-mem}
 
 at-nothing : {x : ℕ} → Nothing ≡ At x → ⊥
 at-nothing e = let z : _≡_ {A = ℕ} 0 1 = cc in omega arith
@@ -100,7 +99,7 @@ module _ (list : List ℕ) (flags : List Bool) {n : ℕ} {r : Found} (c : n ≡ 
         apart = λ q a. absurd (at-nothing a);
       }
 
-  module _ {p : ℕ} (e : r ≡ At p) (left : List Bool) (u : setOf list left ≡ unreached (stationOf list .cables) (setOf list flags) p) where
+  module _ {p : ℕ} (e : r ≡ At p) (left : List Bool) (u : setOf list left ≡ unreached (stationOf list .cables) (setOf list flags) (p ∷ [])) where
     from : connected (stationOf list .cables) (setOf list flags) ≡ null (setOf list left)
     from = connected-from (stationOf list .cables) (setOf list flags) (front-flagged flags c s e) ∙ ap null (sym u)
 
@@ -114,7 +113,7 @@ module _ (list : List ℕ) (flags : List Bool) {n : ℕ} {r : Found} (c : n ≡ 
     path-from : {q : ℕ} → List·Memᴰ q (setOf list flags) → getD left q false ≡ false → Path (stationOf list .cables) (Among (setOf list flags)) q p
     path-from {q} m l = go (reached (stationOf list .cables) (setOf list flags) p m)
       where
-        go : List·Memᴰ q (unreached (stationOf list .cables) (setOf list flags) p) ⊎ Path (stationOf list .cables) (Among (setOf list flags)) q p
+        go : List·Memᴰ q (unreached (stationOf list .cables) (setOf list flags) (p ∷ [])) ⊎ Path (stationOf list .cables) (Among (setOf list flags)) q p
             → Path (stationOf list .cables) (Among (setOf list flags)) q p
         go (inl g) = absurd (false≢true (sym l ∙ flagged-e (stationOf list .parts) left (subst (List·Memᴰ q) (sym u) g) .1))
         go (inr g) = g

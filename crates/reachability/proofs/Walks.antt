@@ -1,4 +1,4 @@
--- Laws of a walk with exactly the steps that it takes, and of the stack that the code walks with. Assumes nothing.
+-- Laws of a walk, which takes as many steps as it may, and of the stack that the code walks with. Assumes nothing.
 use Prim.Native.Nat.{ℕ, zero, suc, _+_, _*_, _-_, _<_, _≤_}
 use native.Mathlib.Omega.{arith}
 use native.Mathlib.Numerals.{add-one}
@@ -41,22 +41,14 @@ module _ (cs : List Cable) where
   ends-few few [] = omega arith
   ends-few few (x ∷ xs) = omega (arith, few x, ends-few few xs)
 
-  -- A walk with as many steps as it takes
-
-  pub walked : List ℕ → List ℕ → List ℕ
-  walked todo left = walk cs (endsAt cs left + length todo) todo left
-
-  pub walked-none : (left : List ℕ) → walked [] left ≡ left
-  unfolding walked walk
-  walked-none left = go (endsAt cs left + 0)
+  -- with nothing to visit, all is left
+  pub unreached-none : (left : List ℕ) → unreached cs left [] ≡ left
+  unfolding unreached walk
+  unreached-none left = go (endsAt cs left + 0)
     where
       go : (k : ℕ) → walk cs k [] left ≡ left
       go zero = refl
       go (suc k) = refl
-
-  pub walked-start : (left : List ℕ) (p : ℕ) → unreached cs left p ≡ walked (p ∷ []) left
-  unfolding walked unreached
-  walked-start left p = refl
 
   -- each step takes one off
   pub steps-next : (p : ℕ) (todo left : List ℕ) → Distinct left
@@ -67,10 +59,10 @@ module _ (cs : List Cable) where
       go true e = omega (arith, ends-removed left u (member-e p left e), length-append (neighbours cs p) todo)
       go false e = refl
 
-  pub walked-next : (p : ℕ) (todo left : List ℕ) → Distinct left
-      → walked (p ∷ todo) left ≡ walked (cond (member p left) (neighbours cs p ++ todo) todo) (cond (member p left) (without p left) left)
-  unfolding walked walk
-  walked-next p todo left u =
+  pub unreached-next : (p : ℕ) (todo left : List ℕ) → Distinct left
+      → unreached cs left (p ∷ todo) ≡ unreached cs (cond (member p left) (without p left) left) (cond (member p left) (neighbours cs p ++ todo) todo)
+  unfolding unreached walk
+  unreached-next p todo left u =
       let k : endsAt cs left + suc (length todo) ≡ suc (endsAt cs left + length todo) = omega arith in
       ap (λ (j : ℕ). walk cs j (p ∷ todo) left) k
       ∙ ap (λ (j : ℕ). walk cs j (cond (member p left) (neighbours cs p ++ todo) todo) (cond (member p left) (without p left) left)) (steps-next p todo left u)
@@ -94,6 +86,10 @@ fromTop-push stack k x h = rw (add-one, getD-set-same stack k x 0 h, fromTop-abo
 pub fromTop-one : (stack : List ℕ) (x : ℕ) → 0 < length stack → fromTop (set stack 0 x) 1 ≡ x ∷ []
 unfolding fromTop
 fromTop-one stack x h = fromTop-push stack 0 x h
+
+pub fromTop-two : (stack : List ℕ) (x y : ℕ) → 1 < length stack → fromTop (set (set stack 0 x) 1 y) 2 ≡ y ∷ x ∷ []
+fromTop-two stack x y h =
+    fromTop-push (set stack 0 x) 1 y (omega (arith, length-set stack 0 x)) ∙ ap (λ (l : List ℕ). y ∷ l) (fromTop-one stack x (omega arith))
 
 pub fromTop-pop : (stack : List ℕ) (k : ℕ) → 0 < k → fromTop stack k ≡ getD stack (k - 1) 0 ∷ fromTop stack (k - 1)
 unfolding fromTop

@@ -1,7 +1,7 @@
 -- What the code keeps: the adjacency table, sets of parts as flags, a stack of parts. Assumes nothing.
 use Prim.Native.Nat.{ℕ, zero, suc, _+_, _*_, _-_, _<_, _≤_}
 use mathlib.Core.Path.{_≡_}
-use mathlib.Core.Bool.{Bool, true, false, cond, not}
+use mathlib.Core.Bool.{Bool, Bool·beq, true, false, cond, not}
 use mathlib.Core.List.{List, [], _∷_, _++_, List·Memᴰ}
 use lib.ListN.{length, getD, take, drop, set}
 use Rattle.words.specs.Rooms.{adjacencyPlaces, neighbourPlaces, stackPlaces}
@@ -9,7 +9,7 @@ use Rattle.words.specs.Limits.{mostDegree, mostParts}
 use Rattle.lists.specs.declared.Found.{Found}
 use Rattle.lists.specs.declared.Found.the-variants.{At}
 use Rattle.lists.specs.Search.{isFound}
-use Rattle.lists.specs.Select.{range, filter}
+use Rattle.lists.specs.Select.{range, filter, any}
 use Rattle.station.specs.Station.{stationOf}
 use Rattle.station.specs.Code.{Wired}
 use Rattle.order.specs.Reach.{neighbours, Path, connected}
@@ -25,6 +25,10 @@ pub record TableFits (table : List ℕ) : Type 0 where
   pub places : length table ≡ adjacencyPlaces
   pub few : (p : ℕ) → getD table (neighbourPlaces + p) 0 ≤ mostDegree
   pub inside : (i : ℕ) → getD table i 0 < mostParts
+
+-- part w has a neighbour with this flag
+unfoldable pub hasNeighbour : List ℕ → List Bool → ℕ → Bool → Bool
+hasNeighbour table flags w flag = any (λ q. Bool·beq (getD flags q false) flag) (neighboursIn table w)
 
 -- the table of a list's cables: each part's neighbours by line
 pub record Adjacent (list table : List ℕ) : Type 0 where
@@ -66,6 +70,12 @@ fromTop stack (suc k) = getD stack k 0 ∷ fromTop stack k
 pub record Pushed (new stack : List ℕ) (top : ℕ) (stack' : List ℕ) (top' : ℕ) : Type 0 where
   pub places : length stack' ≡ length stack
   pub content : fromTop stack' top' ≡ new ++ fromTop stack top
+
+-- a stack that holds the parts that a walk starts from, at most two
+pub record Starting (list stack : List ℕ) (top : ℕ) : Type 0 where
+  pub places : length stack ≡ stackPlaces
+  pub few : top ≤ 2
+  pub inside : (q : ℕ) → List·Memᴰ q (fromTop stack top) → q < stationOf list .parts
 
 -- a stack of height top that a walk can take a step with
 pub record Steppable (table stack : List ℕ) (top : ℕ) : Type 0 where

@@ -11,6 +11,7 @@ pub mod walk;
 
 ghost use mathlib.Core.Path.{_≡_};
 ghost use lib.ListN.{length};
+ghost use Rattle.lists.specs.declared.Found.the-variants.{Nothing};
 ghost use Rattle.words.specs.Rooms.{stackPlaces};
 ghost use Rattle.station.specs.Station.{stationOf};
 ghost use Rattle.order.specs.Reach.{check9, check10};
@@ -28,18 +29,21 @@ pub fn unreached_part(list: &[u32], table: &Table, stack: &mut Stack) -> Found
     walk::lowest(&left, n)
 }
 
-// 10: 'a part whose removal leaves two others without a path', 'lowest such part'.
-pub fn cut_part(list: &[u32], table: &Table, stack: &mut Stack) -> Found
+// 10: 'a part whose removal leaves some other part that reaches neither s nor t', 'lowest such part'. Where part 0 reaches all, a part that
+// separates another from both ends separates a neighbour of its own.
+pub fn separating_part(list: &[u32], table: &Table, stack: &mut Stack) -> Found
     requires { ⌜ Adjacent (now list) (now table) ⌝ }
+    requires { ⌜ check9 (stationOf (now list)) ≡ Nothing ⌝ }
     requires { ⌜ length (now stack) ≡ stackPlaces ⌝ }
     ensures { λ r. ⌜ r ≡ check10 (stationOf (now (list .entry))) ⌝ }
     ensures { λ r. ⌜ length (now (stack .exit)) ≡ stackPlaces ⌝ }
 {
     let n = fields::part_count(list);
-    let all = [true; MOST_PARTS];
     let mut v = 0;
     while v < n {
-        if let Found::At(_) = walk::cut_off(list, table, &all, Part(v as u16), stack) {
+        let part = Part(v as u16);
+        let left = walk::separated_by(list, table, part, stack);
+        if adjacency::has_neighbour(table, &left, part, true) {
             return Found::At(v);
         }
         v += 1;

@@ -1,4 +1,4 @@
-// Walks among the parts of a set (document 01, checks 9 and 10 and 'The order of parts').
+// Walks among the parts of a set (checks 9 and 10, and 'The order of parts' in document 01).
 use crate::adjacency::DEGREES;
 use crate::adjacency::Table;
 use listing::fields;
@@ -9,6 +9,7 @@ use words::limits::MOST_PARTS;
 use words::limits::STACK_PLACES;
 ghost use mathlib.Core.Path.{_≡_};
 ghost use mathlib.Core.Bool.{false};
+ghost use mathlib.Core.List.{[], _∷_};
 ghost use Prim.Native.Nat.{_+_, _<_, _≤_};
 ghost use lib.ListN.{length, getD};
 ghost use Rattle.words.specs.Limits.{mostDegree, mostParts};
@@ -16,8 +17,8 @@ ghost use Rattle.words.specs.Rooms.{stackPlaces};
 ghost use Rattle.lists.specs.Search.{seek};
 ghost use Rattle.lists.specs.Select.{without};
 ghost use Rattle.station.specs.Station.{stationOf};
-ghost use Rattle.order.specs.Reach.{unreached};
-ghost use Rattle.reachability.specs.Tables.{neighboursIn, TableFits, Adjacent, setOf, Pushed, Steppable, Stepped, Across, CutOff};
+ghost use Rattle.order.specs.Reach.{unreached, separated};
+ghost use Rattle.reachability.specs.Tables.{neighboursIn, TableFits, Adjacent, setOf, fromTop, Pushed, Starting, Steppable, Stepped, Across, CutOff};
 
 // The parts that a walk is still to visit. It is lent, since to clear one for each walk would take longer than most walks; what it holds
 // counts for nothing.
@@ -53,6 +54,26 @@ fn step(table: &Table, left: &mut [bool; MOST_PARTS], stack: &mut Stack, top: us
     top - 1
 }
 
+// A walk from the parts on the stack, of height top: the parts of a set that they reach inside the set are taken out of it.
+fn take_reached(
+    list: &[u32],
+    table: &Table,
+    left: &mut [bool; MOST_PARTS],
+    stack: &mut Stack,
+    top: usize,
+)
+    requires { ⌜ Adjacent (now list) (now table) ⌝ }
+    requires { ⌜ Starting (now list) (now stack) top ⌝ }
+    ensures { λ r. ⌜ setOf (now (list .entry)) (now (left .exit))
+        ≡ unreached (stationOf (now (list .entry)) .cables) (setOf (now (list .entry)) (now (left .entry))) (fromTop (now (stack .entry)) top) ⌝ }
+    ensures { λ r. ⌜ length (now (stack .exit)) ≡ stackPlaces ⌝ }
+{
+    let mut height = top;
+    while 0 < height {
+        height = step(table, left, stack, height);
+    }
+}
+
 // The parts of a set that part p does not reach inside the set.
 pub fn walk_from(
     list: &[u32],
@@ -65,15 +86,30 @@ pub fn walk_from(
     requires { ⌜ p .0 < stationOf (now list) .parts ⌝ }
     requires { ⌜ length (now stack) ≡ stackPlaces ⌝ }
     ensures { λ r. ⌜ setOf (now (list .entry)) r
-        ≡ unreached (stationOf (now (list .entry)) .cables) (setOf (now (list .entry)) set) (p .0) ⌝ }
+        ≡ unreached (stationOf (now (list .entry)) .cables) (setOf (now (list .entry)) set) (p .0 ∷ []) ⌝ }
     ensures { λ r. ⌜ length (now (stack .exit)) ≡ stackPlaces ⌝ }
 {
     let mut left = set;
     stack[0] = p.0;
-    let mut top = 1;
-    while 0 < top {
-        top = step(table, &mut left, stack, top);
-    }
+    take_reached(list, table, &mut left, stack, 1);
+    left
+}
+
+// The parts that v separates from both ends: one walk without v, from s and t together.
+pub fn separated_by(list: &[u32], table: &Table, v: Part, stack: &mut Stack) -> [bool; MOST_PARTS]
+    requires { ⌜ Adjacent (now list) (now table) ⌝ }
+    requires { ⌜ v .0 < mostParts ⌝ }
+    requires { ⌜ length (now stack) ≡ stackPlaces ⌝ }
+    ensures { λ r. ⌜ setOf (now (list .entry)) r ≡ separated (stationOf (now (list .entry))) (v .0) ⌝ }
+    ensures { λ r. ⌜ length (now (stack .exit)) ≡ stackPlaces ⌝ }
+{
+    let s = fields::source(list).0;
+    let t = fields::analyser(list).0;
+    let mut left = [true; MOST_PARTS];
+    left[v.0 as usize] = false;
+    stack[0] = t;
+    stack[1] = s;
+    take_reached(list, table, &mut left, stack, 2);
     left
 }
 

@@ -10,7 +10,7 @@ neighbourPlaces = mostDegree * mostParts
 abbrev pub adjacencyPlaces : ℕ
 adjacencyPlaces = neighbourPlaces + mostParts
 
--- the stack of a walk, which puts its first part on it and then each part's neighbours in place of the part: a walk has at most 1 + 4n
--- parts on it, and the last ones put there are at most four
+-- the stack of a walk, which puts the parts that it starts from on it, at most two, and then each part's neighbours in place of the part: a
+-- walk has at most 2 + 4n parts on it, and the last ones put there are at most four
 abbrev pub stackPlaces : ℕ
-stackPlaces = neighbourPlaces + mostDegree
+stackPlaces = neighbourPlaces + mostDegree + 1

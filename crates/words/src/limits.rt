@@ -26,6 +26,6 @@ pub const NEIGHBOUR_PLACES: usize = MOST_DEGREE * MOST_PARTS;
 // The adjacency table: the neighbours of each part, then the degree of each.
 pub const ADJACENCY_PLACES: usize = NEIGHBOUR_PLACES + MOST_PARTS;
 
-// The stack of a walk, which puts its first part on it and then each part's neighbours in place of the part: a walk has at most 1 + 4n
-// parts on it, and the last ones put there are at most four.
-pub const STACK_PLACES: usize = NEIGHBOUR_PLACES + MOST_DEGREE;
+// The stack of a walk, which puts the parts that it starts from on it, at most two, and then each part's neighbours in place of the part: a
+// walk has at most 2 + 4n parts on it, and the last ones put there are at most four.
+pub const STACK_PLACES: usize = NEIGHBOUR_PLACES + MOST_DEGREE + 1;

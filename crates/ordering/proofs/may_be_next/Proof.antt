@@ -26,8 +26,8 @@ is-known-separator-requires c κs = search needs
 returns-3 : tie.Need-returns-3
 returns-3 c = search (next-known, needs)
 
-borders-requires : tie.Need-borders-requires
-borders-requires c κs = search needs
+has-neighbour-requires : tie.Need-has-neighbour-requires
+has-neighbour-requires c κs = search needs
 
 returns-4 : tie.Need-returns-4
 returns-4 c = search (next-open, needs)
@@ -43,5 +43,5 @@ may-be-next-spec =
     returns-2
     is-known-separator-requires
     returns-3
-    borders-requires
+    has-neighbour-requires
     returns-4)

@@ -1,7 +1,7 @@
 -- `ranking::rank_station` meets its contract: 9, 10, or the order of a list that passes both. Assumes nothing.
 use borrow.Author.Needs.{needs}
 use Rattle.station.proofs.Passed.{wired}
-use Rattle.ranking.proofs.CheckedRankings.{checked-9, checked-10, checked-clear, checked-ranked}
+use Rattle.ranking.proofs.CheckedRankings.{finds-nothing, checked-9, checked-10, checked-clear, checked-ranked}
 use Rattle.ranking.proofs.rank_station.Statement.{statement}
 use Rattle.ranking.proofs.rank_station.Tie as tie
 
@@ -23,8 +23,11 @@ returns c = search (checked-9, needs)
 enum-told : tie.Need-enum-told
 enum-told c = search needs
 
-cut-part-requires : tie.Need-cut-part-requires
-cut-part-requires c κs = search needs
+separating-part-requires : tie.Need-separating-part-requires
+separating-part-requires c κs =
+    let nine = c .before .before in
+    let walked = nine .before .before in
+    (search needs, (finds-nothing (walked .unreached-part .ensures .0) (nine .enum-told .given .1), search needs))
 
 enum-known-place-2 : tie.Need-enum-known-place-2
 enum-known-place-2 c = search needs
@@ -45,7 +48,7 @@ rank-parts-requires c κs =
     let nine = cut .before .before .before in
     let walked = nine .before .before in
     let start = walked .before .before .before .before .before in
-    (checked-clear _ (start .pre) (walked .unreached-part .ensures .0) (nine .enum-told .given .1) (cut .cut-part .ensures .0) (ten .enum-told2 .given .1), (search needs, search needs))
+    (checked-clear _ (start .pre) (walked .unreached-part .ensures .0) (nine .enum-told .given .1) (cut .separating-part .ensures .0) (ten .enum-told2 .given .1), (search needs, search needs))
 
 returns-3 : tie.Need-returns-3
 returns-3 c = search (checked-ranked, checked-clear, needs)
@@ -60,7 +63,7 @@ rank-station-spec =
     refused-requires
     returns
     enum-told
-    cut-part-requires
+    separating-part-requires
     enum-known-place-2
     refused-requires-2
     returns-2
