@@ -7,10 +7,12 @@
  * order of the parts, the columns and rows of a sheet, and worked examples.
  *
  * Contracts: crates/exports/src/lib.rt has those of the calls that draw, crates/exports/src/operations.rt those of the
- * editor's. They cite crates/exports/specs/Call.antt and crates/exports/specs/Editing.antt, which say what answer a
- * result and the lent numbers stand for. The answer itself is that of drafting::draw (crates/drafting/src/lib.rt, by
- * `Drew` in crates/hookup/specs/Answer.antt), or of editing::propose and editing::commit (crates/editing/src/lib.rt, by
- * `proposed` and `effect` in crates/editor/specs/Operations.antt). A law that is named below without a file is in
+ * editor's, crates/exports/src/canonical_form.rt that of dovranis_canonicalize. They cite Call.antt, Editing.antt and
+ * CanonicalForm.antt in crates/exports/specs, which say what answer a result and the lent numbers stand for. The answer
+ * itself is that of drafting::draw (crates/drafting/src/lib.rt, by `Drew` in crates/hookup/specs/Answer.antt), of
+ * editing::propose and editing::commit (crates/editing/src/lib.rt, by `proposed` and `effect` in
+ * crates/editor/specs/Operations.antt), or of canonicalizing::canonicalize (crates/canonicalizing/src/lib.rt, by
+ * `Canonicalizes` in crates/canonical/specs/Outcome.antt). A law that is named below without a file is in
  * crates/exports/proofs/Calls.antt.
  *
  *
@@ -40,9 +42,9 @@
  *
  * RESULTS AND CHECKS
  *
- * A result of 0 is a sheet, a proposal or a cable added, and any other is the number of the check that refuses. Every
- * list, every row and every number is answered. A refusal stores its place and nothing else. Each check is made over
- * the whole list before the next, and the first that applies is the refusal.
+ * A result of 0 is a sheet, a proposal, a cable added or a canonical list, and any other is the number of the check
+ * that refuses. Every list, every row and every number is answered. A refusal stores its place and nothing else. Each
+ * check is made over the whole list before the next, and the first that applies is the refusal.
  *
  *   number  condition                                                                     place
  *   1       fewer than two words                                                          words found
@@ -57,7 +59,8 @@
  *   9       a part that part 0 doesn't reach                                              lowest such part
  *   10      a part whose removal leaves some other part that reaches neither source nor
  *           analyser, whichever of them remain                                            lowest such part
- *   11      the output is shorter than the sheet, with its bill where it has one          words of the sheet
+ *   11      the output is shorter than the sheet, with its bill where it has one, or
+ *           than the canonical list                                                       words of that, or m + 2
  *   12      a discount above 10,000                                                       the discount
  *   13      a pitch of 0 or above 64, or a margin above 255; the first of these faults    0 the column pitch,
  *           in the sequence of their places                                               1 the row pitch, 2 the margin
@@ -75,6 +78,7 @@
  *   dovranis_draw_quoted_spaced   12, 13, 1 to 10, 14, 11
  *   dovranis_propose              1 to 8 of the list in the row,     5, 6 and 8 of the new cable, 16
  *   dovranis_commit               1 to 8 of the list in the row, 15, 5, 6 and 8 of the new cable, 16
+ *   dovranis_canonicalize                 1 to 8,      11
  *
  *
  * WHAT HOLDS OF EVERY SHEET
@@ -103,14 +107,14 @@
  * same time as long as the caller sees to what follows.
  *
  * The caller sees to this; nothing tests it:
- * - A row (list, sheet, row) has as many words as the count behind it says, is aligned as uint32_t, and has at most
- *   PTRDIFF_MAX bytes. With a count of 0 the pointer is not followed and may be null.
+ * - A row (list, sheet, row, canonical) has as many words as the count behind it says, is aligned as uint32_t, and has
+ *   at most PTRDIFF_MAX bytes. With a count of 0 the pointer is not followed and may be null.
  * - words, crossings, place and version each point to a number, whatever the result will be: none may be null.
  * - The rows and the numbers of a call lie apart: no two of them overlap.
  * - Until the call returns nothing else writes what is lent as const, and nothing else reads or writes the rest. Before
  *   the call the output and the numbers may hold anything.
  * - There are 128 KiB of stack. The proofs do not bound the stack; the tests call with so much. On stations of up to
- *   512 parts the calls that draw were seen to take 60,504 bytes of it, and the editor's 2,216.
+ *   512 parts the calls that draw were seen to take 60,504 bytes of it, and the others 2,216.
  */
 #ifndef DOVRANIS_H
 #define DOVRANIS_H
@@ -208,7 +212,7 @@ uint32_t dovranis_draw_quoted_spaced(const uint32_t *list, size_t list_count, ui
  * The list in a row is the row's first m + 2 words, where m is bits 15 to 0 of its first word, or the whole row where
  * it has fewer. It begins as a head with m = 0 and an ends word. The words behind the list are room for cables and may
  * hold anything: no answer depends on them (`propose-same`, `commit-same` in crates/editor/proofs/Behind.antt). No list
- * that passes check 8 has more than 2n cables, so that a row of 2n + 2 words, at most 514, has room for every cable
+ * that passes check 8 has more than 2n cables, so that a row of 2n + 2 words, at most 1,026, has room for every cable
  * that may be added (`always-room` in crates/editor/proofs/Refusals.antt).
  *
  * From a row whose list passes checks 1 to 8, with nothing else writing to it, any run of the two calls, whatever they
@@ -259,6 +263,34 @@ uint32_t dovranis_propose(const uint32_t *row, size_t row_count, uint32_t one, u
  */
 uint32_t dovranis_commit(uint32_t *row, size_t row_count, struct dovranis_proposal proposal,
                          size_t *place);
+
+/* Puts a list into canonical form, the documents' 'settled form', in the output `canonical`, or says why it is sent
+ * back. Nothing is drawn, and the station need not be connected: checks 9 and 10 are not made.
+ *
+ *   result     0 for a canonical list, else the number of the check that refuses, 1 to 6, 8 or 11
+ *   canonical  of a canonical list: its first *words words are that list, and those behind them are as they were
+ *              of a refusal: as it was, every word
+ *   words      of a canonical list: m + 2, which is list_count; else as it was
+ *   place      of a refusal: the place that goes with the number; else as it was
+ *
+ * The canonical list is the head and the ends as they are, and all m cables, each with its smaller part first, rising
+ * by first part, then by second. A cable that is repeated stands as often as in the list. An output of list_count words
+ * is always long enough (`list-suffices` in crates/canonical/proofs/Answers.antt). The canonical list passes checks 1
+ * to 8 (`canonical-passes` in crates/canonical/proofs/Passes.antt), and its own canonical form is that list again. The
+ * result, and all that is stored, depends on the words of the list and on canonical_count alone.
+ *
+ * Two lists that pass checks 1 to 8 have the same canonical form exactly if they are lists of one station: n, source
+ * and analyser are equal, and any two parts are joined by equally many cables, named either way round (`canonical-iff`
+ * in crates/canonical/proofs/Canonical.antt). Such lists get the same result and place from checks 9 and 10, and where
+ * they pass, their parts stand in the same order (`same-verdict` and `same-order` in
+ * crates/canonical/proofs/Orders.antt). On their sheets the head is the same, every part stands on the same spot, the
+ * crossings are as many, and there are the same routes from part to part, each as often (`same-drawing` in
+ * crates/hookup/proofs/SameStations.antt, of the grid; a spacing moves both alike). Lines have other numbers, so that
+ * the words of cables, lengths and prices stand in another sequence, and which of two cables between the same two parts
+ * is which may differ.
+ */
+uint32_t dovranis_canonicalize(const uint32_t *list, size_t list_count, uint32_t *canonical,
+                               size_t canonical_count, size_t *words, size_t *place);
 
 #ifdef __cplusplus
 }

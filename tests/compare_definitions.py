@@ -4,12 +4,14 @@
   compare_definitions.py [COUNT [SEED [LARGE [RINGS]]]]     COUNT lists of 3 to 9 parts, LARGE of about 20, and RINGS rings of
                                                             58 parts, the shortest that check 14 can refuse (default 300, 1, 4, 1)
   compare_definitions.py --editor [COUNT [SEED]]            COUNT operations of the editor in random runs (default 400, 1)
+  compare_definitions.py --canonical [COUNT [SEED [LARGE]]] canonical forms of COUNT lists of 3 to 9 parts, many of them with faults, of the short
+                                                            named ones, and of LARGE lists of 512 parts and 1,024 cables (default 300, 1, 2)
 
 Of the lists that are drawn some third has repeated cables, and some fifth a cut part; a fifteenth of all is made to be refused by
 check 10. Every list is stated with a length of output, a third of them with a discount and half of them with a spacing, as an
 equation of `outcome`, the definition at the top, with all words, counts, numbers and places that reference.py gives, and proved by
 computation in a copy of the crates. An operation of the editor is stated as an equation of `proposed`, or of `effect` with the row
-that it leaves. It is no part of the gate."""
+that it leaves; a list and a length of output for its canonical form as one of `canonicalOutcome`. It is no part of the gate."""
 import os
 import random
 import re
@@ -226,5 +228,50 @@ def editor(a):
     return told(wrong, output, lambda k: '%s on %s' % (cases[k][1], ' '.join('%08x' % w for w in cases[k][0])))
 
 
+# The canonical form: equations of `canonicalOutcome`.
+
+def faulty(rng):
+    """A list that passes checks 1 to 8, with faults."""
+    words = lists.unsorted(rng, 3, 9)
+    for _ in range(rng.choice([1, 1, 2])):
+        words = rng.choice(lists.FAULTS)(rng, words)
+    return words
+
+
+def canonical_due(words, room):
+    """The equation of one list, and its number."""
+    answer = reference.canonicalize(words, room)
+    number = answer[1] if answer[0] == 'refused' else 0
+    right = 'sentBack %d %d' % answer[1:] if number else 'written %s %d' % (numbers(answer[1]), len(answer[1]))
+    return 'canonicalOutcome %s %d ≡ %s' % (numbers(words), room, right), number
+
+
+def canonical(a):
+    count, seed, large = (int(a[k]) if len(a) > k else default for k, default in enumerate((300, 1, 2)))
+    rng = random.Random(seed)
+    cases = [words for _, words, _ in lists.canonicals() if len(words) < 14]
+    named = len(cases)
+    cases += [lists.unsorted(rng, 3, 9) if k % 3 == 0 else faulty(rng) if k % 3 == 1 else lists.any_list(rng, 3, 9) for k in range(count)]
+    cases += [lists.listed(rng, *lists.four_regular(rng, 512), *rng.sample(range(512), 2)) for _ in range(large)]
+    table = open(os.path.join(ROOT, 'crates/canonical/proofs/Table.antt'), encoding='utf-8').read()
+    # of the laws only what opens the definitions is in the copy, and none of the table's own lists
+    uses = [row for row in re.findall(r'^use .*$', table, re.M) if 'canonical·proofs' not in row or '.Computing.' in row]
+    opened = re.findall(r'\S+-computing', re.search(r'^unfolding (.*)$', table, re.M).group(1))
+    text, tally = ['-- Random lists.'] + uses, {}
+    for k, words in enumerate(cases):
+        size = len(words)
+        around = [size] if k >= len(cases) - large else [size, size, size + 1, 4096, max(0, size - 1), 0]
+        room = rng.choice(around if reference.list_fault(words) is None else [0, 7, 4096])
+        equation, number = canonical_due(words, room)
+        tally[number] = tally.get(number, 0) + 1
+        text += ['', 'case-%d : %s' % (k, equation), 'unfolding ' + ' '.join(opened), 'case-%d = refl' % k]
+    wrong, output = checked('canonical', text, lambda code: item(code, 'Canonicalized') + '\n', [])
+    print('%d lists, %d of them named, %d with repeated cables (%s)' % (
+        len(cases), named, sum(map(lists.has_repeats, cases)),
+        ', '.join('%d %s' % (v, 'written' if c == 0 else 'refused by %d' % c) for c, v in sorted(tally.items()))))
+    return told(wrong, output, lambda k: ' '.join('%08x' % w for w in cases[k]))
+
+
 if __name__ == '__main__':
-    sys.exit(editor(sys.argv[2:]) if sys.argv[1:2] == ['--editor'] else main(sys.argv[1:]))
+    option = {'--editor': editor, '--canonical': canonical}.get(sys.argv[1] if len(sys.argv) > 1 else '')
+    sys.exit(option(sys.argv[2:]) if option else main(sys.argv[1:]))

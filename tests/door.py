@@ -2,7 +2,8 @@
 """The library as programs in C see it: the archive of the crate `exports`, linked as a shared object and called by ctypes.
 
   door.py       proves and builds the archive, compiles the header as C99 and as C++, compares its constants with the library's, and draws one sheet,
-                without a discount and with one, on the grid and in a spacing; then makes its list by proposals and commits
+                without a discount and with one, on the grid and in a spacing; then makes its list by proposals and commits, and writes
+                the list's canonical form
 
   import door; lib = door.load(door.build())
   lib.draw(list_words, output_words) -> (result, words, crossings, place, output after)
@@ -11,6 +12,7 @@
       pitch, a row pitch and a margin
   lib.propose(row_words, one, other) -> (result, version, place, row after)
   lib.commit(row_words, proposal) -> (result, place, row after); a proposal is one, other and a version
+  lib.canonicalize(list_words, output_words) -> (result, words, place, output after)
 
 It is no part of the gate."""
 import array
@@ -74,15 +76,16 @@ class Door:
         self.quoted_spaced = function('_draw_quoted_spaced', NUMBER, POINTER, SIZE, POINTER, SIZE, NUMBER, NUMBER, NUMBER, NUMBER, POINTER, POINTER, POINTER)
         self.proposed = function('_propose', NUMBER, POINTER, SIZE, NUMBER, NUMBER, POINTER, POINTER)
         self.committed = function('_commit', NUMBER, POINTER, SIZE, Proposal, POINTER)
+        self.canonical = function('_canonicalize', NUMBER, POINTER, SIZE, POINTER, SIZE, POINTER, POINTER)
         if name == 'dovranis':
             self.most_words = function('_most_words', SIZE)
             self.most_quoted_words = function('_most_quoted_words', SIZE)
 
     def asked(self, call, list_words, output_words, more, lent):
         given, output = array.array('I', list_words), array.array('I', output_words)
-        words, crossings, place = numbers = [SIZE(k) for k in lent]
+        numbers = [SIZE(k) for k in lent]
         result = call(given.buffer_info()[0], len(given), output.buffer_info()[0], len(output), *more, *map(ctypes.addressof, numbers))
-        return result, words.value, crossings.value, place.value, list(output)
+        return result, *(k.value for k in numbers), list(output)
 
     def draw(self, list_words, output_words, lent=(0, 0, 0)):
         """The call on copies of these words, with numbers lent that hold these values."""
@@ -99,6 +102,10 @@ class Door:
     def draw_quoted_spaced(self, list_words, output_words, discount, spacing, lent=(0, 0, 0)):
         """The call that is given both, as `draw`."""
         return self.asked(self.quoted_spaced, list_words, output_words, (discount, *spacing), lent)
+
+    def canonicalize(self, list_words, output_words, lent=(0, 0)):
+        """The call on copies of these words, with a count of words and a place lent that hold these values."""
+        return self.asked(self.canonical, list_words, output_words, (), lent)
 
     def edited(self, call, row_words, more, numbers):
         """The result of a call on a copy of this row, and the row after; no word beside it may change."""
@@ -171,7 +178,11 @@ def main():
                                      ('with both', lib.draw_quoted_spaced(triangle, row, 1250, spacing))):
         print('%s: result %d, words %d, crossings %d, place %d' % (what, *numbers))
         print(' '.join('%08x' % w for w in output))
-    return not (made(lib, triangle) and agree(lib))
+    good = made(lib, triangle)
+    *numbers, output = lib.canonicalize(triangle, row[:6])
+    print('canonical form: result %d, words %d, place %d' % tuple(numbers))
+    print(' '.join('%08x' % w for w in output))
+    return not (good and agree(lib))
 
 
 if __name__ == '__main__':

@@ -1820,6 +1820,166 @@ def sequence(rng, edit, most=8):
     return row, run_on(rng, row, edit, rng.choice([3, 10, 20, 40] if most == 8 else [20, 40, 400]), max(256, most))
 
 
+# The canonical form, document 02's settled form: the cables of a list sorted, each with its smaller part first.
+
+def rearranged(rng, words):
+    """The list with its lines in another sequence, and some of its cables turned round."""
+    lines = words[2:]
+    rng.shuffle(lines)
+    return words[:2] + [rng.choice([w, turned(w)]) for w in lines]
+
+
+def unsorted(rng, n_min=3, n_max=40):
+    """A list that passes checks 1 to 8, mostly with its lines in any sequence and its cables either way round: of a
+    station that is drawn, or of any cables, often with repeated ones. Now and then it is sorted, or nearly."""
+    if rng.random() < 0.4:
+        words = rearranged(rng, drawn(rng, n_min, n_max))
+    else:
+        n = rng.randint(n_min, n_max)
+        words = loose(rng, n, rng.choice([0, 1, 2, rng.randint(0, n), rng.randint(0, 2 * n), 2 * n]))
+    if rng.random() < 0.3 and len(words) > 2:
+        lines = sorted(min(w, turned(w)) for w in words[2:])
+        i = rng.randrange(len(lines))
+        words = words[:2] + rng.choice([lambda: lines, lambda: lines[::-1], lambda: [turned(w) for w in lines],
+                                        lambda: lines[i:] + lines[:i], lambda: lines[:i] + [turned(lines[i])] + lines[i + 1:]])()
+    return words
+
+
+def fourfold(n):
+    """Four cables between each part of an even number and the next."""
+    return n, sorted(4 * [(p, p + 1) for p in range(0, n, 2)])
+
+
+def fourfold_across(n):
+    """Four cables between each part of the lower half, from 0 on, and one of the upper half, from the last down; n is even."""
+    return n, sorted(4 * [(p, n - 1 - p) for p in range(n // 2)])
+
+
+def canonicals():
+    """Lists by name, each with its canonical form, or with None where it is refused. Names are as those of `boundaries`,
+    with `list` for a canonical form."""
+    out = []
+
+    def put(what, n, s, t, cables, due):
+        out.append(('list, ' + what, build(n, s, t, cables), build(n, s, t, due)))
+
+    def no(check, place, what, words):
+        out.append(('refused %d %d, %s' % (check, place, what), words, None))
+
+    def ways(what, n, s, t, due, rng):
+        """A canonical list itself, and in other sequences and directions."""
+        back = [c[::-1] for c in due]
+        for how, cables in (('in order', due), ('reversed', due[::-1]), ('turned round', back), ('reversed and turned round', back[::-1]),
+                            ('by second part, then first', sorted(due, key=lambda c: c[::-1])),
+                            ('every other line first', due[1::2] + due[::2])):
+            put('%s, %s' % (what, how), n, s, t, cables, due)
+        put('%s, shuffled' % what, n, s, t, [rng.choice([c, c[::-1]]) for c in rng.sample(due, len(due))], due)
+
+    rng = random.Random(13)
+    three = [(0, 1), (0, 2), (1, 2)]
+    put('triangle', 3, 0, 2, [(0, 1), (1, 2), (0, 2)], three)
+    put('triangle, each cable turned round', 3, 0, 2, [(1, 0), (2, 1), (2, 0)], three)
+    ways('triangle', 3, 0, 2, three, rng)
+    ways('all ten cables among five', 5, 0, 4, sorted(complete(5)[1]), rng)
+
+    # No cable, and one.
+    for n in (3, 4, 255, 256, 257, 511, 512):
+        put('%d parts, no cable' % n, n, 0, n - 1, [], [])
+        put('%d parts, no cable, s is the last part' % n, n, n - 1, 0, [], [])
+        for a, b in ((0, 1), (0, n - 1), (n - 2, n - 1)):
+            put('%d parts, the cable %d-%d' % (n, a, b), n, 0, 1, [(a, b)], [(a, b)])
+            put('%d parts, the cable %d-%d' % (n, b, a), n, 0, 1, [(b, a)], [(a, b)])
+
+    # The ends are not sorted, whatever the cables say.
+    for s in range(3):
+        for t in range(3):
+            if s != t:
+                put('triangle, s is %d and t is %d' % (s, t), 3, s, t, [(2, 1), (2, 0), (1, 0)], three)
+    for s, t in ((511, 0), (0, 511), (256, 255), (255, 256), (510, 511)):
+        put('512 parts, s is %d and t is %d' % (s, t), 512, s, t, [(511, 0), (256, 255), (511, 510)], [(0, 511), (255, 256), (510, 511)])
+
+    # The cables of one part: all to larger parts, all to smaller ones, and to both.
+    put('four cables to larger parts', 5, 0, 4, [(0, 4), (3, 0), (0, 2), (1, 0)], [(0, 1), (0, 2), (0, 3), (0, 4)])
+    put('four cables to smaller parts', 5, 0, 4, [(4, 3), (2, 4), (4, 1), (0, 4)], [(0, 4), (1, 4), (2, 4), (3, 4)])
+    put('two cables to larger parts and two to smaller ones', 5, 0, 4, [(2, 4), (1, 2), (2, 3), (2, 0)], [(0, 2), (1, 2), (2, 3), (2, 4)])
+    put('part 0 of 512, four cables', 512, 0, 511, [(0, 511), (0, 1), (256, 0), (255, 0)], [(0, 1), (0, 255), (0, 256), (0, 511)])
+    put('part 511 of 512, four cables', 512, 0, 511, [(511, 510), (0, 511), (511, 256), (255, 511)],
+        [(0, 511), (255, 511), (256, 511), (510, 511)])
+    put('parts 0 and 511 of 512, four cables each', 512, 511, 0,
+        [(511, 510), (0, 511), (511, 0), (509, 511), (2, 0), (0, 1)], [(0, 1), (0, 2), (0, 511), (0, 511), (509, 511), (510, 511)])
+
+    # Repeated cables stay, as often as they are.
+    for k in (2, 3, 4):
+        for how, cables in (('', k * [(0, 1)]), (', turned round', k * [(1, 0)]), (', in turn', (2 * [(0, 1), (1, 0)])[:k])):
+            put('%d cables between 0 and 1%s' % (k, how), 3, 0, 2, cables, k * [(0, 1)])
+    put('the triangle, a cable again', 3, 0, 2, [(0, 1), (1, 2), (0, 2), (0, 1)], [(0, 1)] + three)
+    put('the triangle, a cable again and turned round', 3, 0, 2, [(2, 1), (0, 1), (1, 2), (0, 2)], three + [(1, 2)])
+    put('the triangle, each cable twice', 3, 0, 2, [(2, 1), (0, 1), (2, 0), (1, 2), (1, 0), (0, 2)],
+        [(0, 1), (0, 1), (0, 2), (0, 2), (1, 2), (1, 2)])
+    put('three cables and one at a part', 4, 0, 3, [(1, 3), (0, 1), (3, 1), (1, 3)], [(0, 1), (1, 3), (1, 3), (1, 3)])
+    put('four cables between 510 and 511', 512, 0, 511, [(511, 510), (510, 511), (511, 510), (510, 511)], 4 * [(510, 511)])
+    put('four cables between 0 and 1, four between 2 and 3, in turn', 4, 0, 3, 4 * [(3, 2), (0, 1)], 4 * [(0, 1)] + 4 * [(2, 3)])
+
+    # Rising by first part, then second: neither by second part, nor by low bytes, nor by the sum.
+    put('first parts fall while second parts rise', 8, 0, 7, [(3, 4), (2, 5), (1, 6), (0, 7)], [(0, 7), (1, 6), (2, 5), (3, 4)])
+    put('equal second parts', 8, 0, 7, [(6, 7), (7, 5), (1, 7), (7, 0)], [(0, 7), (1, 7), (5, 7), (6, 7)])
+    put('first parts 0, 1, 255, 256, 257 and 511', 512, 0, 511,
+        [(511, 256), (257, 256), (0, 256), (256, 255), (0, 511), (1, 255), (0, 255), (1, 257), (0, 1), (257, 258)],
+        [(0, 1), (0, 255), (0, 256), (0, 511), (1, 255), (1, 257), (255, 256), (256, 257), (256, 511), (257, 258)])
+    put('parts 1, 2, 256 and 512 less one', 512, 1, 2, [(511, 2), (256, 1), (511, 1), (2, 256), (1, 2)],
+        [(1, 2), (1, 256), (1, 511), (2, 256), (2, 511)])
+
+    # Checks 9 and 10 are not made.
+    put('part 0 alone', 4, 1, 3, [(3, 1), (3, 2), (1, 2)], [(1, 2), (1, 3), (2, 3)])
+    put('the last part alone', 4, 0, 2, [(2, 0), (2, 1), (1, 0)], three)
+    put('s and t alone', 5, 3, 4, [(2, 0), (2, 1), (1, 0)], three)
+    put('two triangles', 6, 0, 5, [(5, 4), (2, 1), (5, 3), (2, 0), (4, 3), (1, 0)], three + [(3, 4), (3, 5), (4, 5)])
+    put('a chain, t within', 4, 0, 2, [(3, 2), (2, 1), (1, 0)], [(0, 1), (1, 2), (2, 3)])
+    put('a chain, s within', 4, 1, 3, [(1, 0), (2, 1), (3, 2)], [(0, 1), (1, 2), (2, 3)])
+    put('a star, part 4 in its middle', 5, 0, 1, [(4, 3), (4, 1), (4, 2), (4, 0)], [(0, 4), (1, 4), (2, 4), (3, 4)])
+    put("check 7's example in document 01", 3, 0, 2, [(0, 1), (1, 0)], [(0, 1), (0, 1)])
+    put('512 parts, two rings apart', 512, 0, 256, sorted((b + k, a + k) for a, b in ring(256)[1] for k in (0, 256))[::-1],
+        sorted((a + k, b + k) for a, b in ring(256)[1] for k in (0, 256)))
+
+    # As many cables as there may be, and the most parts.
+    for what, (n, cables) in (('512 cables', four_regular(rng, 256)), ('next and next but one', second_neighbours(512)),
+                              ('1024 cables', four_regular(rng, 512)), ('doubled ring', doubled(*ring(512))),
+                              ('four cables between two parts each', fourfold(512)), ('four cables between the halves', fourfold_across(512))):
+        ways('%d parts: %s' % (n, what), n, *rng.choice([(0, n - 1), (n - 1, 0)]), sorted(cables), rng)
+    for n in (511, 512):
+        for what, (_, cables) in (('ring', ring(n)), ('chain', chain(n)), ('random', of_ears(rng, n)),
+                                  ('random, with repeated cables', repeated(rng, *of_ears(rng, n)))):
+            due = sorted(cables)
+            put('%d parts: %s' % (n, what), n, 0, n - 1, [rng.choice([c, c[::-1]]) for c in rng.sample(due, len(due))], due)
+
+    # Checks 1 to 8, each before 11. A place is that of the list as it stands, sorted or not.
+    no(1, 0, 'no words', [])
+    no(1, 1, 'a head alone', [head(3, 0)])
+    no(2, 0, 'no head', [ends(0, 2), ends(0, 2), cable(1, 0)])
+    no(2, 1, 'no ends', [head(3, 1), cable(0, 2), cable(1, 0)])
+    no(2, 4, 'a spare bit in the last cable', build(3, 0, 2, [(2, 1), (1, 0)]) + [0x31000002])
+    no(2, 3, 'a part in place of a cable', build(3, 0, 2, [(2, 1)]) + [0x50001000, cable(1, 0)])
+    no(3, 3, 'no word for the one cable', [head(3, 1), ends(0, 2)])
+    no(3, 2, 'a cable too many', [head(3, 0), ends(0, 2), cable(1, 0)])
+    no(3, 65537, 'm of 65535', [head(3, 65535), ends(0, 2), cable(1, 0)])
+    for n in (0, 1, 2, 513, 514, 1024, 4095):
+        no(4, n, '%d parts' % n, build(n, 0, 1, [(1, 0)]))
+    no(4, 513, '513 parts, 1026 cables', full_list(513))
+    no(5, 4, 'part 3 of 3 behind others', build(3, 0, 2, [(2, 1), (1, 0), (3, 0)]))
+    no(5, 1, 's is 3 of 3', build(3, 3, 2, [(2, 1)]))
+    no(5, 1025, 'part 512 of 512 in the last word', full_list(512)[:-1] + [cable(512, 0)])
+    no(6, 1, 's is t', build(3, 1, 1, [(2, 1)]))
+    no(6, 3, 'part 1 joined to itself', build(3, 0, 2, [(2, 1), (1, 1), (0, 0)]))
+    no(6, 1025, 'part 511 joined to itself in the last word', full_list(512)[:-1] + [cable(511, 511)])
+    no(8, 0, 'five cables between 0 and 1', build(3, 0, 2, [(1, 0), (0, 1), (1, 0), (0, 1), (1, 0)]))
+    no(8, 0, 'five cables at 0', build(6, 0, 5, [(5, 0), (4, 0), (3, 0), (2, 0), (1, 0)]))
+    no(8, 5, 'five cables at the last part', build(6, 0, 5, [(5, 0), (5, 4), (5, 3), (5, 2), (5, 1)]))
+    no(8, 2, 'five cables at 2 and at 6', build(7, 0, 6, [(6, 0), (6, 1), (6, 3), (6, 4), (6, 5), (2, 0), (2, 1), (2, 3), (2, 4), (2, 5)]))
+    no(8, 0, '512 parts, 1025 cables', build(512, 0, 511, sorted(second_neighbours(512)[1]) + [(256, 0)]))
+    no(8, 255, '512 parts, 1025 cables, the last again', build(512, 0, 511, sorted(second_neighbours(512)[1] - {(0, 511)}) + 2 * [(511, 255)]))
+    return out
+
+
 def files():
     """(name, bytes, first line due) about the length of a file."""
     triangle = b''.join(w.to_bytes(4, 'big')

@@ -7,6 +7,7 @@
   measure.py --spaced [WORD..]     as a table: instructions of both, on the grid and in a spacing (`dovranis_draw_spaced`), and what a spot on the sheet takes
   measure.py --editor [WORD..]     as a table: instructions of `dovranis_propose` and `dovranis_commit` and of their like in baseline.c, on
                                    rows of 256 and of 512 parts
+  measure.py --canonical [WORD..]  as a table: instructions of `dovranis_canonicalize` and of its like in baseline.c
   measure.py --functions [WORD..]  where the instructions go, on stations of 512 parts
   measure.py --passes [WORD..]     instructions on stations of 512 parts, with baseline.c in its simpler form too: a depth-first pass at
                                    each rank
@@ -15,8 +16,8 @@
   measure.py --program             instructions of the program target/bin/sheet (made by `rt check sheet`) and of baseline.c as a program
   --parts N                        with --functions or --passes: stations of N parts
   --archive FILE                   takes this archive, and neither proves nor builds one; it may be without `dovranis_draw_quoted`, but for --quoted, without
-                                   `dovranis_draw_spaced` and `dovranis_draw_quoted_spaced`, but for --spaced, and without `dovranis_propose` and
-                                   `dovranis_commit`, but for --editor
+                                   `dovranis_draw_spaced` and `dovranis_draw_quoted_spaced`, but for --spaced, without `dovranis_propose` and
+                                   `dovranis_commit`, but for --editor, and without `dovranis_canonicalize`, but for --canonical
 
 It needs cc, nm, objdump and valgrind. Instructions are callgrind's, of one call and all that it calls. Time is the best of many rounds, a round being
 as many calls as take 20 microseconds; the two have four rounds each in turn. Both answers are compared. It is no part of the gate."""
@@ -175,6 +176,33 @@ int main(int argc, char **argv) {
 }
 '''
 
+CANONICAL_DRIVER = r'''
+#include <stdio.h>
+#include <stdlib.h>
+#include <string.h>
+#include "dovranis.h"
+
+uint32_t baseline_canonicalize(const uint32_t *, size_t, uint32_t *, size_t, size_t *, size_t *);
+
+struct answer { uint32_t result, canonical[8192]; size_t words, place; };
+
+/* FILE ROOM ours|baseline|both */
+int main(int argc, char **argv) {
+    static struct answer answers[2];
+    static uint32_t list[65537];
+    if (argc != 4) return 2;
+    FILE *f = fopen(argv[1], "rb");
+    size_t count = fread(list, 4, 65537, f), room = atol(argv[2]);
+    for (int i = 0; i < 2; i++) {
+        struct answer *a = &answers[i];
+        if (!strcmp(argv[3], i ? "ours" : "baseline")) continue;
+        a->result = (i ? baseline_canonicalize : dovranis_canonicalize)(list, count, a->canonical, room, &a->words, &a->place);
+    }
+    printf("%d %u\n", memcmp(&answers[0], &answers[1], sizeof answers[0]) == 0, answers[0].result);
+    return 0;
+}
+'''
+
 # Each call is made twice on a stack of its own, painted with one pattern and then with another; what it takes is told by the lowest byte
 # that is no longer as painted.
 STACK_DRIVER = r'''
@@ -197,6 +225,7 @@ spaced baseline_draw_spaced;
 both baseline_draw_quoted_spaced;
 propose baseline_propose;
 commit baseline_commit;
+uint32_t baseline_canonicalize(const uint32_t *, size_t, uint32_t *, size_t, size_t *, size_t *);
 
 enum { STACK = 1 << 20, MOST = 1 << 17, ROOM = 8192 };
 
@@ -220,8 +249,9 @@ static __attribute__((noinline)) void ask(void) {
     case 3: result = OF(draw_quoted_spaced)(list, k[1], sheet, ROOM, k[2], k[3], k[4], k[5], NUMBERS); break;
     case 4: result = OF(propose)(list, k[1], k[2], k[3], &version, &place); break;
     case 5: result = OF(commit)(list, k[1], p, &place); break;
-    case 6: if (!theirs) sum += dovranis_most_words(); break;
-    case 7: if (!theirs) sum += dovranis_most_quoted_words(); break;
+    case 6: result = OF(canonicalize)(list, k[1], sheet, ROOM, &words, &place); break;
+    case 7: if (!theirs) sum += dovranis_most_words(); break;
+    case 8: if (!theirs) sum += dovranis_most_quoted_words(); break;
     }
 }
 
@@ -248,7 +278,7 @@ int main(int argc, char **argv) {
     while (fread(k, 4, 6, f) == 6 && fread(row, 4, k[1], f) == k[1]) {
         for (theirs = 0; theirs < 2; theirs++) {
             long one = taken(0x5a), other = taken(0xa5);
-            printf("%ld %u ", one > other ? one : other, k[0] < 6 ? result : 0);
+            printf("%ld %u ", one > other ? one : other, k[0] < 7 ? result : 0);
         }
         puts("");
     }
@@ -509,24 +539,75 @@ def editor(driver, asked):
         print('| %s | %s |' % (name, ' | '.join(row)), flush=True)
 
 
+# The canonical form. The lists, as (name, words, length of output).
+
+ARRANGED = (('ladder', lists.ladder), ('ring', lists.ring), ('four-regular', lambda n: lists.four_regular(random.Random(n), n)),
+            ('doubled ring', lambda n: lists.doubled(*lists.ring(n))))
+
+
+def arranged():
+    """Stations with their lines in canonical order; reversed, and their cables turned round; and both by chance. Then the longest
+    lists that 5 and 8 refuse, and one of 1,024 cables that 11 does."""
+    for n in (16, 64, 256, 512):
+        for kind, make in ARRANGED:
+            words = lists.build(n, 0, n - 1, sorted(make(n)[1]))
+            back = words[:2] + [lists.turned(w) for w in words[:1:-1]]
+            for how, its in zip(NUMBERS, (words, back, lists.rearranged(random.Random(n), words))):
+                yield '%s of %d, %s' % (kind, n, how), its, ROOM
+    for name, words, room in refusals():
+        if check_of(name) in (5, 8):
+            yield name, words, room
+    yield 'refused 11', lists.rearranged(random.Random(11), lists.full_list(512)), 1025
+
+
+class CanonicalDriver(Linked):
+    def __init__(self, folder, archive):
+        if 'dovranis_canonicalize' not in functions_of(archive):
+            sys.exit('the archive has no dovranis_canonicalize')
+        super().__init__(folder, archive, CANONICAL_DRIVER, [])
+
+    def instructions(self, name, words, room):
+        """Of ours and of the baseline, whose answers are compared."""
+        path = self.keep(words)
+        got = subprocess.run([self.program, path, str(room), 'both'], check=True, stdout=subprocess.PIPE, text=True).stdout.split()
+        if got != ['1', str(check_of(name)) if name.startswith('refused') else '0']:
+            sys.exit('%s: the answers differ, or the result is %s' % (name, got[1]))
+        return [self.traced(call, [path, str(room), which])[1]
+                for call, which in (('dovranis_canonicalize', 'ours'), ('baseline_canonicalize', 'baseline'))]
+
+
+def canonical(driver, asked):
+    print('| list | words | instructions | a word | baseline | a word | ratio |\n|---|' + '---:|' * 6)
+    for name, words, room in chosen(arranged(), asked):
+        i, j = driver.instructions(name, words, room)
+        count = len(words)
+        print('| %s | %s |' % (name, ' | '.join(['{:,}'.format(count), '{:,}'.format(i), '%.1f' % (i / count), '{:,}'.format(j), '%.1f' % (j / count),
+                                                 '%.1f' % (i / j)])), flush=True)
+
+
 # The stack.
 
-CALLS = 'draw', 'draw_quoted', 'draw_spaced', 'draw_quoted_spaced', 'propose', 'commit', 'most_words', 'most_quoted_words'
+CALLS = 'draw', 'draw_quoted', 'draw_spaced', 'draw_quoted_spaced', 'propose', 'commit', 'canonicalize', 'most_words', 'most_quoted_words'
 
 
 def stack_calls():
-    """(name, call, its four numbers, words) on the largest stations, drawn and refused, and on the rows of named runs."""
+    """(name, call, its four numbers, words) on the largest stations, drawn and refused, on the rows of named runs, and on the
+    largest lists that have a canonical form by name."""
     fits, wide = (DISCOUNT, *SPACING), (DISCOUNT, 64, 64, 255)
     for name, words in lists.boundaries():
         if lists.is_large(words):
             for call in range(4):
                 yield name, call, fits, words
             yield name + ', 14', 3, wide, words
+            yield name, 6, 4 * (0,), words
     for name, row, operations in lists.edits():
         if lists.is_large(row):
             for _, (what, one, other, version) in operations:
                 yield name, 4 + what, (one, other, version, 0), row
-    for call in (6, 7):
+    for name, words, _ in lists.canonicals():
+        if lists.is_large(words):
+            yield name, 6, 4 * (0,), words
+    for call in (7, 8):
         yield '', call, 4 * (0,), []
 
 
@@ -546,7 +627,7 @@ def stack(linked):
     print('The header asks for {:,} bytes.\n'.format(door.STACK))
     print('| call | bytes | on | baseline |\n|---|---:|---|---:|')
     for call, (ours, name, theirs) in sorted(most.items()):
-        print('| `dovranis_%s` | %s | %s | %s |' % (CALLS[call], '{:,}'.format(ours), name, '{:,}'.format(theirs) if call < 6 else ''))
+        print('| `dovranis_%s` | %s | %s | %s |' % (CALLS[call], '{:,}'.format(ours), name, '{:,}'.format(theirs) if call < 7 else ''))
 
 
 # Where the instructions go. The archive has one large function with most others inside: the call, or one that it calls. So each of its instructions is given to
@@ -717,6 +798,8 @@ def main(args):
             archive = door.ARCHIVE
         if '--editor' in args:
             return editor(EditorDriver(os.path.join(folder, 'editor'), archive), asked)
+        if '--canonical' in args:
+            return canonical(CanonicalDriver(os.path.join(folder, 'canonical'), archive), asked)
         if '--stack' in args:
             return stack(Linked(os.path.join(folder, 'stack'), archive, STACK_DRIVER, []))
         driver = Driver(os.path.join(folder, 'plain'), archive)

@@ -2,11 +2,14 @@
 // given, the discount, the column pitch, the row pitch, the margin, and the list's words, each most significant byte first. Each list is
 // drawn with room to spare, filled with a mark; a sheet also with the exact room and with one word less, a refused list also with no room.
 // Printed are the answers, the sheet's words, and whether what lies behind them is as it was.
+use console::MARK;
 use console::MOST_READ;
 use console::read_input;
 use console::say;
+use console::say_kept;
 use console::say_number;
 use console::say_refused;
+use console::say_same;
 use console::say_words;
 use drawing::spacing::Spacing;
 use hookup::Answer;
@@ -14,8 +17,6 @@ use hookup::Options;
 use words::limits::MOST_QUOTED_WORDS;
 ghost use Prim.Native.Nat.{_+_, _<_};
 ghost use lib.ListN.{length};
-
-const MARK: u32 = 0xa5a5_a5a5;
 
 // Room to spare for every sheet.
 const ROW: usize = 2 * MOST_QUOTED_WORDS;
@@ -30,49 +31,6 @@ fn say_answer(answer: Answer) {
             say(b"\n");
         }
         Answer::Refused { check, place } => say_refused(check, place),
-    }
-}
-
-// Every word of a row is the mark.
-fn is_marked(row: &[u32]) -> bool {
-    let mut i = 0;
-    while i < row.len() {
-        if row[i] != MARK {
-            return false;
-        }
-        i += 1;
-    }
-    true
-}
-
-fn say_kept(row: &[u32]) {
-    if is_marked(row) {
-        say(b"kept\n");
-    } else {
-        say(b"changed\n");
-    }
-}
-
-// Two rows hold the same words.
-fn is_same(a: &[u32], b: &[u32]) -> bool {
-    if a.len() != b.len() {
-        return false;
-    }
-    let mut i = 0;
-    while i < a.len() {
-        if a[i] != b[i] {
-            return false;
-        }
-        i += 1;
-    }
-    true
-}
-
-fn say_same(a: &[u32], b: &[u32]) {
-    if is_same(a, b) {
-        say(b"same\n");
-    } else {
-        say(b"other words\n");
     }
 }
 

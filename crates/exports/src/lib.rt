@@ -5,6 +5,7 @@ use hookup::Answer;
 use hookup::Options;
 use words::limits;
 
+pub mod canonical_form;
 pub mod operations;
 
 ghost use mathlib.Core.Path.{_≡_};

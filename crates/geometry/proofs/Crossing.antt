@@ -9,7 +9,7 @@ use lib.ListN.{length}
 use lib.Dec.{eqb, leb}
 use borrow.Author.Tests.{eqb-true, eq-eqb, leb-true, le-leb}
 use Rattle.lists.specs.Select.{any, range}
-use Rattle.lists.proofs.Bools.{and-e, and-i, or-e, or-left, or-right, not-e, not-i}
+use Rattle.lists.proofs.Bools.{and-e, and-i, or-e, or-left, or-right, not-e, not-i, or-either}
 use Rattle.lists.proofs.Any.{any-at-e, any-at-i, any-range-e, any-range-i}
 use Rattle.geometry.specs.Spots.{Spot, origin, sameSpot}
 use Rattle.geometry.specs.Lines.{point, IsRun, OnRun, OnLevel, OnUpright, Between, Level, Upright, NoPoint, CrossesOver, CrossingAt}
@@ -117,3 +117,8 @@ pub linesCross-i : (ps qs : List Spot) (s : Spot) → CrossingAt ps qs s → lin
 unfolding linesCross
 linesCross-i ps qs s (inl X) = or-left (crossesOver ps qs) (crossesOver qs ps) (crossesOver-i ps qs s X)
 linesCross-i ps qs s (inr X) = or-right (crossesOver ps qs) (crossesOver qs ps) (crossesOver-i qs ps s X)
+
+-- which of the two comes first does not matter
+pub linesCross-either : (ps qs : List Spot) → linesCross ps qs ≡ linesCross qs ps
+unfolding linesCross
+linesCross-either ps qs = or-either (crossesOver ps qs) (crossesOver qs ps)

@@ -20,7 +20,8 @@ use Rattle.layout.proofs.EndLines.{linesAt-e, distinct-linesAt, between
 use Rattle.layout.proofs.Step.{cable}
 use Rattle.layout.proofs.Invariant.{invariant}
 
-lines-rise : (m : ℕ) (rank : ℕ → ℕ) (k : ℕ) → Rising (λ i. i) (linesAt m rank k)
+-- the lines at a rank rise
+pub lines-rise : (m : ℕ) (rank : ℕ → ℕ) (k : ℕ) → Rising (λ i. i) (linesAt m rank k)
 unfolding linesAt
 lines-rise m rank k = rising-filter (λ i. i) (λ i. eqb (rank i) k) (range m) (rising-range m)
 

@@ -24,6 +24,7 @@ pub mod Maps
 pub mod SpacedCourses
 pub mod Cross
 pub mod Drawn
+pub mod Relabelled
 pub mod Computing
 pub mod Worked
 pub mod Bounds

@@ -42,3 +42,10 @@ pub same-test : (a b : Bool) → (a ≡ true → b ≡ true) → (b ≡ true →
 same-test true b f g = sym (f refl)
 same-test false true f g = g refl
 same-test false false f g = refl
+
+-- either way round
+pub or-either : (a b : Bool) → (a || b) ≡ (b || a)
+or-either true true = refl
+or-either true false = refl
+or-either false true = refl
+or-either false false = refl

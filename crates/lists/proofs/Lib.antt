@@ -6,6 +6,7 @@ pub mod Select
 pub mod Sort
 pub mod Rising
 pub mod Stable
+pub mod Multiset
 pub mod Tests
 pub mod Sums
 pub mod Sets
@@ -24,4 +25,7 @@ pub mod Agree
 pub mod Lastly
 pub mod Slices
 pub mod Seeking
+pub mod Renamed
+pub mod Matching
+pub mod Pairs
 pub mod Computing

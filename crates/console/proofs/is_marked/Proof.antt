@@ -1,9 +1,9 @@
--- `cases::is_marked` meets its contract. Assumes nothing.
+-- `console::is_marked` meets its contract. Assumes nothing.
 use Prim.Native.Nat.{_≤_, _-_}
 use borrow.Author.Needs.{needs}
 use lib.ListN.{length}
-use Rattle.cases.proofs.is_marked.Statement.{statement}
-use Rattle.cases.proofs.is_marked.Tie as tie
+use Rattle.console.proofs.is_marked.Statement.{statement}
+use Rattle.console.proofs.is_marked.Tie as tie
 
 abbrev Inv-loop : tie.InvT-loop
 Inv-loop row i₀ i = (i ≤ length row)

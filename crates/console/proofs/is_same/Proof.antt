@@ -1,9 +1,9 @@
--- `cases::is_same` meets its contract. Assumes nothing.
+-- `console::is_same` meets its contract. Assumes nothing.
 use Prim.Native.Nat.{_≤_, _-_}
 use borrow.Author.Needs.{needs}
 use lib.ListN.{length}
-use Rattle.cases.proofs.is_same.Statement.{statement}
-use Rattle.cases.proofs.is_same.Tie as tie
+use Rattle.console.proofs.is_same.Statement.{statement}
+use Rattle.console.proofs.is_same.Tie as tie
 
 abbrev Inv-loop : tie.InvT-loop
 Inv-loop a b i₀ i = (i ≤ length a)
