@@ -7,19 +7,20 @@
  * order of the parts, the columns and rows of a sheet, and worked examples.
  *
  * Contracts: crates/exports/src/lib.rt has those of the calls that draw, crates/exports/src/operations.rt those of the
- * editor's, crates/exports/src/canonical_form.rt that of dovranis_canonicalize. They cite Call.antt, Editing.antt and
- * CanonicalForm.antt in crates/exports/specs, which say what answer a result and the lent numbers stand for. The answer
- * itself is that of drafting::draw (crates/drafting/src/lib.rt, by `Drew` in crates/hookup/specs/Answer.antt), of
- * editing::propose and editing::commit (crates/editing/src/lib.rt, by `proposed` and `effect` in
- * crates/editor/specs/Operations.antt), or of canonicalizing::canonicalize (crates/canonicalizing/src/lib.rt, by
- * `Canonicalizes` in crates/canonical/specs/Outcome.antt). A law that is named below without a file is in
- * crates/exports/proofs/Calls.antt.
+ * editor's, crates/exports/src/canonical_form.rt that of dovranis_canonicalize, and crates/exports/src/signal_levels.rt
+ * that of dovranis_levels. They cite Call.antt, Editing.antt, CanonicalForm.antt and SignalLevels.antt in
+ * crates/exports/specs, which say what answer a result and the lent numbers stand for. The answer itself is that of
+ * drafting::draw (crates/drafting/src/lib.rt, by `Drew` in crates/hookup/specs/Answer.antt), of editing::propose and
+ * editing::commit (crates/editing/src/lib.rt, by `proposed` and `effect` in crates/editor/specs/Operations.antt), of
+ * canonicalizing::canonicalize (crates/canonicalizing/src/lib.rt, by `Canonicalizes` in
+ * crates/canonical/specs/Outcome.antt), or of levelling::find_levels (crates/levelling/src/lib.rt, by `FindsLevels` in
+ * crates/levels/specs/Outcome.antt). A law that is named below without a file is in crates/exports/proofs/Calls.antt.
  *
  *
  * WORDS
  *
- * Lists and sheets are rows of 32-bit words in the machine's own byte order. Bits 31 to 28 are the kind. Unless said
- * otherwise bits 27 to 24 are zero, and two fields follow, in bits 23 to 12 and in bits 11 to 0.
+ * Lists, sheets and sorts are rows of 32-bit words in the machine's own byte order. Bits 31 to 28 are the kind. Unless
+ * said otherwise bits 27 to 24 are zero, and two fields follow, in bits 23 to 12 and in bits 11 to 0.
  *
  *   kind  word          fields
  *   1     list head     n, the count of parts, in bits 27 to 16; m, the count of cables, in bits 15 to 0
@@ -30,6 +31,8 @@
  *   6     cable         line in bits 27 to 12; count of its corners in bits 11 to 0
  *   7     corner        x, y
  *   8     length        line in bits 27 to 12; grid steps along that cable's line in bits 11 to 0
+ *   9     sort          0 a joint, 1 a pad, 2 an amplifier, in bits 27 to 24; bits 23 to 16 are zero; the pad's loss or
+ *                       the amplifier's gain in 1/64 dB, 0 for a joint, in bits 15 to 0
  *   10    total length  grid steps of all cables in bits 27 to 0
  *   0     price         cents, of a cable or of all cables, in bits 27 to 0
  *
@@ -37,14 +40,16 @@
  * Several cables may join the same two parts, named either way round; they are told apart by their lines. A sheet is
  * its head, the parts by number, the cables by line, each followed by its corners from the lower-ranked end upward,
  * then the lengths by line and their total. A call that is given a discount ends it with the bill: the prices by line
- * and their total. x is counted from the left and y from the bottom, both from 0.
+ * and their total. x is counted from the left and y from the bottom, both from 0. The sorts of a station's parts are n
+ * words of kind 9, by part number.
  *
  *
  * RESULTS AND CHECKS
  *
- * A result of 0 is a sheet, a proposal, a cable added or a canonical list, and any other is the number of the check
- * that refuses. Every list, every row and every number is answered. A refusal stores its place and nothing else. Each
- * check is made over the whole list before the next, and the first that applies is the refusal.
+ * A result of 0 is a sheet, a proposal, a cable added, a canonical list or levels, and any other is the number of the
+ * check that refuses. Every list, every row and every number is answered. A refusal stores its place and nothing else.
+ * Each check is made over the whole list, 17 and 18 over all sorts, before the next, and the first that applies is the
+ * refusal.
  *
  *   number  condition                                                                     place
  *   1       fewer than two words                                                          words found
@@ -60,13 +65,16 @@
  *   10      a part whose removal leaves some other part that reaches neither source nor
  *           analyser, whichever of them remain                                            lowest such part
  *   11      the output is shorter than the sheet, with its bill where it has one, or
- *           than the canonical list                                                       words of that, or m + 2
+ *           than the canonical list, or than 2n floats                                    words of that, m + 2, or 2n
  *   12      a discount above 10,000                                                       the discount
  *   13      a pitch of 0 or above 64, or a margin above 255; the first of these faults    0 the column pitch,
  *           in the sequence of their places                                               1 the row pitch, 2 the margin
  *   14      a coordinate or a head field above 4,095                                      largest such number
  *   15      a proposal whose version is not m                                             m
  *   16      no word is left in the row: row_count is m + 2                                row_count
+ *   17      sorts other than n words, or one of a wrong kind, with a sort above 2, or     first such word, or n where
+ *           with any of its bits 23 to 16 set                                             only their count is wrong
+ *   18      a sort whose number is above 6,400, or not 0 at a joint                       lowest such part
  *
  * Of the lists that pass 1 to 9, check 10 refuses exactly those whose parts have no st-ordering from source to analyser
  * (`passes-iff` in crates/order/proofs/SeparatingParts.antt). A chain of parts between the two passes.
@@ -79,6 +87,7 @@
  *   dovranis_propose              1 to 8 of the list in the row,     5, 6 and 8 of the new cable, 16
  *   dovranis_commit               1 to 8 of the list in the row, 15, 5, 6 and 8 of the new cable, 16
  *   dovranis_canonicalize                 1 to 8,      11
+ *   dovranis_levels                       1 to 10 of the list, 17 and 18 of the sorts, 11
  *
  *
  * WHAT HOLDS OF EVERY SHEET
@@ -107,14 +116,15 @@
  * same time as long as the caller sees to what follows.
  *
  * The caller sees to this; nothing tests it:
- * - A row (list, sheet, row, canonical) has as many words as the count behind it says, is aligned as uint32_t, and has
- *   at most PTRDIFF_MAX bytes. With a count of 0 the pointer is not followed and may be null.
- * - words, crossings, place and version each point to a number, whatever the result will be: none may be null.
+ * - A row of words (list, sheet, row, canonical, sorts) has as many words as the count behind it says and is aligned as
+ *   uint32_t, the row of floats (levels) has as many floats and is aligned as float, and each has at most PTRDIFF_MAX
+ *   bytes. With a count of 0 the pointer is not followed and may be null.
+ * - words, crossings, floats, place and version each point to a number, whatever the result will be: none may be null.
  * - The rows and the numbers of a call lie apart: no two of them overlap.
  * - Until the call returns nothing else writes what is lent as const, and nothing else reads or writes the rest. Before
- *   the call the output and the numbers may hold anything.
+ *   the call the output and the numbers may hold anything, an output of floats NaNs too.
  * - There are 128 KiB of stack. The proofs do not bound the stack; the tests call with so much. On stations of up to
- *   512 parts the calls that draw were seen to take 60,504 bytes of it, and the others 2,216.
+ *   512 parts the calls that draw were seen to take 72,872 bytes of it, dovranis_levels 25,896, and the others 2,216.
  */
 #ifndef DOVRANIS_H
 #define DOVRANIS_H
@@ -291,6 +301,39 @@ uint32_t dovranis_commit(uint32_t *row, size_t row_count, struct dovranis_propos
  */
 uint32_t dovranis_canonicalize(const uint32_t *list, size_t list_count, uint32_t *canonical,
                                size_t canonical_count, size_t *words, size_t *place);
+
+/* An output of so many floats is long enough for the levels of every list: two for each of 512 parts, the most that
+ * check 4 lets pass (`most-suffices` in crates/levels/proofs/Answers.antt). There is no function for it. */
+#define DOVRANIS_MOST_LEVELS 1024
+
+/* Finds the least and the greatest signal level at every part, in dB, or says why list or sorts are sent back. Nothing
+ * is drawn.
+ *
+ *   result  0 for levels, else the number of the check that refuses, 1 to 6, 8 to 11, 17 or 18
+ *   levels  of levels: its first *floats floats are the levels by part number, each part's least before its greatest,
+ *           and those behind them are as they were (the proofs tell no NaN from another; that each keeps its bits is
+ *           tested)
+ *           of a refusal: as it was, every float
+ *   floats  of levels: 2n, at most level_count and at most DOVRANIS_MOST_LEVELS; else as it was
+ *   place   of a refusal: the place that goes with the number; else as it was
+ *
+ * A route leads from the source by cables that each climb in rank, the order in which a sheet has the parts by rising
+ * row. Its level starts at 0; each of its parts, the source and the last one too, adds its gain or subtracts its loss.
+ * The source's only route is the source alone. Of all routes to a part some has its least level, some its greatest, and
+ * no other level lies outside these two (`LevelsAt` in crates/levels/specs/Promises.antt): they are the shortest and
+ * the longest paths of a directed acyclic graph, the st-graph of the smallest st-ordering.
+ *
+ * A float is IEEE 754's binary32. Levels are multiples of 1/64 from -51,200 to 51,200, which it holds exactly, and no
+ * sum is rounded. Zero is positive zero: 0x80000000 never occurs.
+ *
+ * 17 looks at all sorts that are lent, also behind the n-th, and 18 at a row that has passed 17. Two lists that pass
+ * checks 1 to 8 and have the same canonical form get the same answer (`same-answer` in
+ * crates/levels/proofs/SameStations.antt). The result, and all that is stored, depends on the words of the list, on the
+ * sorts and on level_count alone.
+ */
+uint32_t dovranis_levels(const uint32_t *list, size_t list_count, const uint32_t *sorts,
+                         size_t sort_count, float *levels, size_t level_count, size_t *floats,
+                         size_t *place);
 
 #ifdef __cplusplus
 }

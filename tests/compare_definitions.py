@@ -6,12 +6,15 @@
   compare_definitions.py --editor [COUNT [SEED]]            COUNT operations of the editor in random runs (default 400, 1)
   compare_definitions.py --canonical [COUNT [SEED [LARGE]]] canonical forms of COUNT lists of 3 to 9 parts, many of them with faults, of the short
                                                             named ones, and of LARGE lists of 512 parts and 1,024 cables (default 300, 1, 2)
+  compare_definitions.py --levels [COUNT [SEED [LARGE]]]    levels of COUNT lists of 3 to 8 parts, a third of them with faults in the second row, of
+                                                            the short named ones, and of LARGE lists of 11 to 13 parts (default 300, 1, 4)
 
 Of the lists that are drawn some third has repeated cables, and some fifth a cut part; a fifteenth of all is made to be refused by
 check 10. Every list is stated with a length of output, a third of them with a discount and half of them with a spacing, as an
 equation of `outcome`, the definition at the top, with all words, counts, numbers and places that reference.py gives, and proved by
 computation in a copy of the crates. An operation of the editor is stated as an equation of `proposed`, or of `effect` with the row
-that it leaves; a list and a length of output for its canonical form as one of `canonicalOutcome`. It is no part of the gate."""
+that it leaves; a list and a length of output for its canonical form as one of `canonicalOutcome`; a list, a second row and a length
+of output as one of `levelsOutcome`, with the bit patterns of the floats. It is no part of the gate."""
 import os
 import random
 import re
@@ -41,10 +44,10 @@ def answer(words, room, discount, spacing):
     return reference.answer(words, room, discount, spacing or reference.GRID)
 
 
-def few(rng):
+def few(rng, most=9):
     """Any list but one of 257 to 512 parts, which is long to compute and can only be refused."""
     while True:
-        words = lists.any_list(rng, 3, 9)
+        words = lists.any_list(rng, 3, most)
         if len(words) < 2 or not 256 < words[0] >> 16 & 0xfff <= lists.MOST_PARTS:
             return words
 
@@ -272,6 +275,47 @@ def canonical(a):
     return told(wrong, output, lambda k: ' '.join('%08x' % w for w in cases[k]))
 
 
+# Levels: equations of `levelsOutcome`, in bit patterns.
+
+def levels_due(words, sorts, room):
+    """The equation of one call, and its number."""
+    answer = reference.levels(words, sorts, room)
+    number = answer[1] if answer[0] == 'refused' else 0
+    right = 'sentBack %d %d' % answer[1:] if number else 'written %s %d' % (numbers(answer[1]), len(answer[1]))
+    return 'inBits (levelsOutcome %s %s %d) ≡ %s' % (numbers(words), numbers(sorts), room, right), number
+
+
+def levels(a):
+    count, seed, large = (int(a[k]) if len(a) > k else default for k, default in enumerate((300, 1, 4)))
+    rng = random.Random(seed)
+    cases = [(words, sorts) for _, words, sorts, _ in lists.levels() if len(words) < 14 and len(sorts) < 20]
+    named = len(cases)
+    for k in range(count):
+        words = few(rng, 8) if k % 3 == 2 else lists.drawn(rng, 3, 8)
+        n = min(8, words[0] >> 16 & 0xfff) if words else 0
+        cases.append((words, (lists.wrong_sorts if k % 3 == 1 or k % 15 == 2 else lists.some_sorts)(rng, n)))
+    for _ in range(large):
+        words = lists.drawn(rng, 11, 13)
+        cases.append((words, lists.of_gains(*(rng.randint(-6400, 6400) for _ in range(words[0] >> 16 & 0xfff)))))
+    table = open(os.path.join(ROOT, 'crates/levels/proofs/Table.antt'), encoding='utf-8').read()
+    # of the laws only what opens the definitions is in the copy, and none of the table's own lists
+    uses = [row for row in re.findall(r'^use .*$', table, re.M) if 'levels·proofs' not in row or '.Computing.' in row]
+    opened = re.findall(r'\S+-computing', re.search(r'^unfolding (.*)$', table, re.M).group(1))
+    text, tally = ['-- Random calls.'] + uses, {}
+    for k, (words, sorts) in enumerate(cases):
+        full = reference.levels(words, sorts)
+        size = len(full[1]) if full[0] == 'levels' else 0
+        room = size if k >= len(cases) - large else rng.choice([size, size, size + 1, 4096, size - 1, 0] if size else [0, 7, 4096])
+        equation, number = levels_due(words, sorts, room)
+        tally[number] = tally.get(number, 0) + 1
+        text += ['', 'case-%d : %s' % (k, equation), 'unfolding ' + ' '.join(opened), 'case-%d = refl' % k]
+    wrong, output = checked('levels', text, lambda code: '\n\n'.join(item(code, what) for what in ('Levels', 'Sort', 'Levelled')) + '\n', [])
+    print('%d calls, %d of them named, %d with repeated cables (%s)' % (
+        len(cases), named, sum(lists.has_repeats(words) for words, _ in cases),
+        ', '.join('%d %s' % (v, 'written' if c == 0 else 'refused by %d' % c) for c, v in sorted(tally.items()))))
+    return told(wrong, output, lambda k: '%s with %s' % tuple(' '.join('%08x' % w for w in row) for row in cases[k]))
+
+
 if __name__ == '__main__':
-    option = {'--editor': editor, '--canonical': canonical}.get(sys.argv[1] if len(sys.argv) > 1 else '')
+    option = {'--editor': editor, '--canonical': canonical, '--levels': levels}.get(sys.argv[1] if len(sys.argv) > 1 else '')
     sys.exit(option(sys.argv[2:]) if option else main(sys.argv[1:]))

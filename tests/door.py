@@ -2,8 +2,8 @@
 """The library as programs in C see it: the archive of the crate `exports`, linked as a shared object and called by ctypes.
 
   door.py       proves and builds the archive, compiles the header as C99 and as C++, compares its constants with the library's, and draws one sheet,
-                without a discount and with one, on the grid and in a spacing; then makes its list by proposals and commits, and writes
-                the list's canonical form
+                without a discount and with one, on the grid and in a spacing; then makes its list by proposals and commits, writes
+                the list's canonical form, and gives levels
 
   import door; lib = door.load(door.build())
   lib.draw(list_words, output_words) -> (result, words, crossings, place, output after)
@@ -13,11 +13,13 @@
   lib.propose(row_words, one, other) -> (result, version, place, row after)
   lib.commit(row_words, proposal) -> (result, place, row after); a proposal is one, other and a version
   lib.canonicalize(list_words, output_words) -> (result, words, place, output after)
+  lib.levels(list_words, sort_words, output_bits) -> (result, floats, place, output after); floats are bit patterns
 
 It is no part of the gate."""
 import array
 import ctypes
 import os
+import struct
 import subprocess
 import sys
 import threading
@@ -26,6 +28,7 @@ TOP = os.path.dirname(os.path.dirname(os.path.abspath(__file__)))
 ARCHIVE = os.path.join(TOP, 'target', 'staticlib', 'libexports.a')
 SHARED = os.path.join(TOP, 'target', 'staticlib', 'libexports.so')
 INCLUDE = os.path.join(TOP, 'include')
+HEADER = '#include "dovranis.h"\n'
 
 POINTER, SIZE, NUMBER = ctypes.c_void_p, ctypes.c_size_t, ctypes.c_uint32
 GUARD = 0x5a5a5a5a      # around a row
@@ -48,13 +51,17 @@ def build():
     return SHARED
 
 
+def constants(*names):
+    """The values of constants of the header."""
+    shown = run(['cc', '-E', '-P', '-I', INCLUDE, '-'], input=HEADER + ' '.join(names) + '\n')
+    return tuple(map(int, shown.split()[-len(names):]))
+
+
 def header():
-    """Compiles the header alone, warnings as errors; the values of its constants."""
-    text = '#include "dovranis.h"\n'
+    """Compiles the header alone, warnings as errors; the values of those of its constants that the library has too."""
     for compiler in COMPILERS:
-        run(compiler + WARNED + ['-I', INCLUDE, '-c', '-o', os.devnull, '-'], input=text)
-    shown = run(['cc', '-E', '-P', '-I', INCLUDE, '-'], input=text + 'DOVRANIS_MOST_WORDS DOVRANIS_MOST_QUOTED_WORDS\n')
-    return tuple(map(int, shown.split()[-2:]))
+        run(compiler + WARNED + ['-I', INCLUDE, '-c', '-o', os.devnull, '-'], input=HEADER)
+    return constants('DOVRANIS_MOST_WORDS', 'DOVRANIS_MOST_QUOTED_WORDS')
 
 
 class Proposal(ctypes.Structure):
@@ -77,6 +84,7 @@ class Door:
         self.proposed = function('_propose', NUMBER, POINTER, SIZE, NUMBER, NUMBER, POINTER, POINTER)
         self.committed = function('_commit', NUMBER, POINTER, SIZE, Proposal, POINTER)
         self.canonical = function('_canonicalize', NUMBER, POINTER, SIZE, POINTER, SIZE, POINTER, POINTER)
+        self.leveled = function('_levels', NUMBER, POINTER, SIZE, POINTER, SIZE, POINTER, SIZE, POINTER, POINTER)
         if name == 'dovranis':
             self.most_words = function('_most_words', SIZE)
             self.most_quoted_words = function('_most_quoted_words', SIZE)
@@ -106,6 +114,13 @@ class Door:
     def canonicalize(self, list_words, output_words, lent=(0, 0)):
         """The call on copies of these words, with a count of words and a place lent that hold these values."""
         return self.asked(self.canonical, list_words, output_words, (), lent)
+
+    def levels(self, list_words, sort_words, output_bits, lent=(0, 0)):
+        """The call on copies of these rows, with a count of floats and a place lent that hold these values."""
+        rows, numbers = [array.array('I', row) for row in (list_words, sort_words, output_bits)], [SIZE(k) for k in lent]
+        given = [k for row in rows for k in (row.buffer_info()[0], len(row))]
+        result = self.leveled(*given, *map(ctypes.addressof, numbers))
+        return result, *(k.value for k in numbers), list(rows[2])
 
     def edited(self, call, row_words, more, numbers):
         """The result of a call on a copy of this row, and the row after; no word beside it may change."""
@@ -182,6 +197,11 @@ def main():
     *numbers, output = lib.canonicalize(triangle, row[:6])
     print('canonical form: result %d, words %d, place %d' % tuple(numbers))
     print(' '.join('%08x' % w for w in output))
+    # a joint, a pad of 10 dB and an amplifier of 20 dB
+    *numbers, output = lib.levels(triangle, [0x90000000, 0x91000280, 0x92000500], row[:7])
+    print('levels: result %d, floats %d, place %d' % tuple(numbers))
+    print(' '.join('%08x' % bits for bits in output))
+    print(' '.join('%g' % k for k in struct.unpack('<6f', struct.pack('<6I', *output[:6]))))
     return not (good and agree(lib))
 
 

@@ -1980,6 +1980,325 @@ def canonicals():
     return out
 
 
+# Levels. The second row of a call has a word of kind 9 for each part. Numbers, gains and levels count 1/64 dB.
+
+JOINT, PAD, AMPLIFIER = 0, 1, 2
+MOST_NUMBER = 6400
+NUMBERS = [0, 1, 2, 63, 64, 65, 640, 4096, 6399, 6400]
+TOO_LARGE = [6401, 6402, 6464, 8191, 8192, 12800, 16384, 32767, 32768, 59136, 65535]
+
+
+def sort_word(sort, number=0):
+    return 0x90000000 | sort << 24 | number
+
+
+def of_gains(*gains):
+    """The second row of parts with these gains: an amplifier where it is above 0, a pad below, else a joint."""
+    return [sort_word((g > 0) * AMPLIFIER or (g < 0) * PAD, abs(g)) for g in gains]
+
+
+def gains_of(sorts):
+    return [(w & 0xffff) * (0, -1, 1)[w >> 24 & 3] for w in sorts]
+
+
+def numbered(n, cables, sorts):
+    """Least and greatest level by part where ranks are as the numbers and s is part 0."""
+    own, below = gains_of(sorts), [[] for _ in range(n)]
+    for a, b in cables:
+        below[max(a, b)].append(min(a, b))
+    least, greatest = own[:1], own[:1]
+    for p in range(1, n):
+        least.append(own[p] + min(least[q] for q in below[p]))
+        greatest.append(own[p] + max(greatest[q] for q in below[p]))
+    return [level for two in zip(least, greatest) for level in two]
+
+
+def negated(sorts):
+    """The second row with pads and amplifiers exchanged."""
+    return [w ^ 3 << 24 if w >> 24 & 3 else w for w in sorts]
+
+
+def some_sorts(rng, n):
+    """A second row of n parts that passes 17 and 18: all of one sort, pads and amplifiers of one number, so that many
+    levels are 0, few parts that are no joints, or any."""
+    number = rng.choice([rng.choice(NUMBERS), rng.randint(0, MOST_NUMBER)])
+    most = rng.choice([0, 1, 2, 64, MOST_NUMBER, MOST_NUMBER])
+    way = rng.randrange(10)
+    if way < 3:
+        return n * [sort_word(way, number if way else 0)]
+    if way == 3:
+        return n * [sort_word(rng.choice([PAD, AMPLIFIER]), rng.choice([0, MOST_NUMBER]))]
+    if way < 6:
+        some = [sort_word(PAD, number), sort_word(AMPLIFIER, number)] + (way - 4) * [sort_word(JOINT), sort_word(PAD)]
+        return [rng.choice(some) for _ in range(n)]
+    out = []
+    for _ in range(n):
+        sort = rng.choice([PAD, AMPLIFIER]) if rng.random() < (0.2 if way == 6 else 0.8) else JOINT
+        out.append(sort_word(sort, rng.choice([rng.randint(0, most), rng.randint(0, most), min(most, rng.choice(NUMBERS))]) if sort else 0))
+    return out
+
+
+# Faults, each put into a second row. Another may hide it.
+
+def wrong_sort_word(rng, word):
+    """The word with another kind, a sort that is none, or spare bits; now and then any word of these."""
+    while True:
+        way = rng.randrange(4)
+        if way == 0:
+            out = word & 0x0fffffff | rng.randrange(16) << 28
+        elif way == 1:
+            out = word & 0xf0ffffff | rng.randint(3, 15) << 24
+        elif way == 2:
+            out = word | rng.choice([1 << rng.randrange(8), rng.randrange(1, 256)]) << 16
+        else:
+            out = rng.choice([rng.getrandbits(32), cable(0, 1), head(3, 3), 0, 0xffffffff])
+        if out >> 28 != 9 or (out >> 24 & 15) > AMPLIFIER or out >> 16 & 0xff:
+            return out
+
+
+def sorts_17(rng, sorts):
+    out, more = list(sorts), some_sorts(rng, rng.choice([1, 1, 2, 3, 9, max(1, len(sorts))]))
+    way = rng.randrange(8)
+    if way == 0:
+        return out[:rng.choice([0, max(0, len(out) - 1), rng.randint(0, len(out))])]
+    if way == 1:
+        return out + more
+    if way == 2:
+        i = rng.choice([0, len(more) - 1, rng.randrange(len(more))])
+        return out + more[:i] + [wrong_sort_word(rng, more[i])] + more[i + 1:]
+    if out:
+        i = rng.choice([0, len(out) - 1, rng.randrange(len(out))])
+        out[i] = wrong_sort_word(rng, out[i])
+    return out
+
+
+def sorts_18(rng, sorts):
+    out = list(sorts)
+    for _ in range(rng.choice([1, 1, 1, 2, 3]) if out else 0):
+        i = rng.choice([0, len(out) - 1, rng.randrange(len(out))])
+        out[i] = rng.choice([sort_word(JOINT, rng.choice([1, 6400, 65535, rng.randint(1, 65535)])),
+                             sort_word(rng.choice([PAD, AMPLIFIER]), rng.choice([rng.choice(TOO_LARGE), rng.randint(6401, 65535)]))])
+    return out
+
+
+def wrong_sorts(rng, n):
+    """A second row for n parts with faults, 17 and 18 in any mixture; now and then the faults mend each other."""
+    out = some_sorts(rng, n)
+    for _ in range(rng.choice([1, 1, 1, 2, 3])):
+        out = rng.choice([sorts_17, sorts_17, sorts_18])(rng, out)
+    return out
+
+
+def levels():
+    """Calls by name, as (name, list, second row, least and greatest level by part). Names are as those of `boundaries`,
+    with `levels` for levels. In place of these there is None where the call is refused, and at some large stations."""
+    out = []
+
+    def put(what, words, sorts, due=None):
+        out.append(('levels, ' + what, words, sorts, due))
+
+    def no(check, place, what, words, sorts):
+        out.append(('refused %d %d, %s' % (check, place, what), words, sorts, None))
+
+    def rising(what, n, cables, sorts):
+        """Of a station whose ranks are as the numbers."""
+        put(what, build(n, 0, n - 1, sorted(cables)), sorts, numbered(n, cables, sorts))
+
+    three = [(0, 1), (1, 2), (0, 2)]
+    triangle, joints = build(3, 0, 2, three), of_gains(0, 0, 0)
+    put('triangle: joint, pad, amplifier', triangle, of_gains(0, -640, 1280), [0, 0, -640, -640, 640, 1280])
+    put('triangle of joints', triangle, joints, 6 * [0])
+
+    # Zero is positive zero: at the source, of a zero pad, of a pad behind an amplifier, either value, both.
+    for sort, what in ((PAD, 'pad'), (AMPLIFIER, 'amplifier')):
+        put('triangle of zero %ss' % what, triangle, 3 * [sort_word(sort)], 6 * [0])
+        for p in range(3):
+            put('triangle, part %d a zero %s' % (p, what), triangle, joints[:p] + [sort_word(sort)] + joints[p + 1:], 6 * [0])
+    put('triangle, a zero pad behind a pad and an amplifier', triangle, of_gains(-64, 64) + [sort_word(PAD)], [-64, -64, 0, 0, -64, 0])
+    put('triangle, a zero pad behind an amplifier and a pad', triangle, of_gains(64, -64) + [sort_word(PAD)], [64, 64, 0, 0, 0, 64])
+    for k in (1, 64, 6400):
+        for gains, due in (((k, -k, 0), [k, k, 0, 0, 0, k]), ((-k, k, 0), [-k, -k, 0, 0, -k, 0]), ((0, k, -k), [0, 0, k, k, -k, 0]),
+                           ((0, -k, k), [0, 0, -k, -k, 0, k]), ((k, 0, -k), [k, k, k, k, 0, 0]), ((-k, 0, k), [-k, -k, -k, -k, 0, 0]),
+                           ((0, -k, 0), [0, 0, -k, -k, -k, 0]), ((0, k, 0), [0, 0, k, k, 0, k]), ((k, k, k), [k, k, 2 * k, 2 * k, 2 * k, 3 * k]),
+                           ((-k, -k, -k), [-k, -k, -2 * k, -2 * k, -3 * k, -2 * k])):
+            put('triangle, gains of %d, %d and %d' % gains, triangle, of_gains(*gains), due)
+    chain_4 = build(4, 0, 3, [(0, 1), (1, 2), (2, 3)])
+    put('chain of 4, a pad and an amplifier in turn', chain_4, of_gains(-6400, 6400, -6400, 6400), [-6400, -6400, 0, 0, -6400, -6400, 0, 0])
+    put('chain of 4, an amplifier and a pad in turn', chain_4, of_gains(6400, -6400, 6400, -6400), [6400, 6400, 0, 0, 6400, 6400, 0, 0])
+    put('chain of 4, a quarter, a half and one dB', chain_4, of_gains(16, -32, 64, -48), [16, 16, -16, -16, 48, 48, 0, 0])
+    put('ring of 4, two ways to 0', build(4, 0, 2, RING_OF_4), of_gains(0, 7, 0, -7), [0, 0, 7, 7, -7, 7, -7, -7])
+    put('ring of 4, 0 by two ways', build(4, 0, 2, RING_OF_4), of_gains(-5, 5, 0, 5), [-5, -5, 0, 0, 0, 0, 0, 0])
+
+    # Each part's gain is a power of two, so that a level shows the parts of its route.
+    powers = of_gains(1, 2, 4, 8, 16)
+    for s in range(3):
+        for t in range(3):
+            if s != t:
+                a, b, c = 1 << s, 1 << 3 - s - t, 1 << t
+                due = {s: [a, a], 3 - s - t: [a + b, a + b], t: [a + c, a + b + c]}
+                put('triangle, s is %d and t is %d' % (s, t), build(3, s, t, three), powers[:3], [k for p in range(3) for k in due[p]])
+    put('B', build(4, 0, 2, [(0, 1), (1, 2), (2, 3), (3, 0)]), powers[:4], [1, 1, 3, 3, 7, 13, 9, 9])
+    # The order is 0, 3, 1, 2: a route climbs from 3 to 1.
+    c = build(4, 0, 2, [(0, 1), (0, 3), (1, 3), (1, 2), (0, 2)])
+    put('C', c, powers[:4], [1, 1, 3, 11, 5, 15, 9, 9])
+    put('C, part 3 a pad', c, of_gains(1, 2, 4, -8), [1, 1, -5, 3, -1, 7, -7, -7])
+    d = build(5, 0, 4, sorted(complete(5)[1]))
+    put('D', d, powers, [1, 1, 3, 3, 5, 7, 9, 15, 17, 31])
+    put('D, pads and amplifiers in turn', d, of_gains(0, -2, 4, -8, 16), [0, 0, -2, -2, 2, 4, -10, -4, 6, 20])
+    put('D, pads', d, of_gains(-1, -2, -4, -8, -16), [-1, -1, -3, -3, -7, -5, -15, -9, -31, -17])
+    # The order is 2, 0, 3, 1.
+    put('chain of 4 against its numbers', build(4, 2, 1, [(3, 0), (1, 3), (0, 2)]), powers[:4], [5, 5, 15, 15, 4, 4, 13, 13])
+    # The order is 4, 3, 0, 1, 2 and 4, 1, 3, 0, 2.
+    put('ring of 5, s is 4 and t is 2', build(5, 4, 2, sorted(ring(5)[1])), powers, [17, 17, 19, 19, 23, 28, 24, 24, 16, 16])
+    put('five parts, s is 4 and t is 2', build(5, 4, 2, [(4, 1), (4, 3), (3, 0), (1, 3), (0, 2), (1, 2)]), powers,
+        [25, 27, 18, 18, 22, 31, 24, 26, 16, 16])
+
+    # Cables between the same parts are routes of one level.
+    for what, cables in (('line 0 again', three + [(1, 0)]), ('line 2 again', three + [(0, 2)]), ('each cable twice', 2 * three),
+                         ('0-1 three times', three + [(0, 1), (1, 0)])):
+        put('triangle, %s' % what, build(3, 0, 2, cables), of_gains(1, -2, 4), [1, 1, -1, -1, 3, 5])
+    put('chain of 4 pairs', build(5, 0, 4, 2 * [(0, 1), (1, 2), (2, 3), (3, 4)]), of_gains(-1, -2, 4, -8, 16), [-1, -1, -3, -3, 1, 1, -7, -7, 9, 9])
+    put('three cables and one in turn', build(5, 0, 4, triple_chain(5)[1]), powers, [1, 1, 3, 3, 7, 7, 15, 15, 31, 31])
+
+    # Cut parts: a chain at either end of a triangle, and two triangles on part 2, whose four routes have four levels.
+    put('a triangle between two cables', build(5, 0, 4, [(0, 1), (1, 2), (1, 3), (2, 3), (3, 4)]), of_gains(1, -2, -4, 8, -16),
+        [1, 1, -1, -1, -5, -5, 3, 7, -13, -9])
+    put('two triangles on part 2', build(5, 0, 4, three + [(2, 3), (3, 4), (2, 4)]), powers, [1, 1, 3, 3, 5, 7, 13, 15, 21, 31])
+
+    # Two sides of a ring, t opposite s: one side is ranked first, and then the other from its far end.
+    for n in (8, 9, 16):
+        t = n // 2
+        for what, left, right in (('', 5, 7), (', a pad on either side', -5, -7), (', one side of pads', -6400, 6400), (', one side of joints', 0, -1)):
+            due = [level for p in range(t) for level in 2 * [left * p]] + sorted([left * (t - 1), right * (n - 1 - t)])
+            due += [level for p in range(t + 1, n) for level in 2 * [right * (n - p)]]
+            put('ring of %d, t is %d%s' % (n, t, what), build(n, 0, t, sorted(ring(n)[1])), of_gains(0, *(t - 1) * [left], 0, *(n - 1 - t) * [right]), due)
+
+    # 17: every wrong kind, sort and spare bit; the first wrong word counts, behind the n-th word too.
+    good = of_gains(0, -640, 1280)
+
+    def changed(i, word, row=good):
+        return row[:i] + [word] + row[i + 1:]
+
+    for k in range(16):
+        if k != 9:
+            i = k % 3
+            no(17, i, 'kind %d at word %d' % (k, i), triangle, changed(i, good[i] & 0x0fffffff | k << 28))
+    for sort in range(3, 16):
+        i = sort % 3
+        no(17, i, 'sort %d at word %d' % (sort, i), triangle, changed(i, sort_word(sort)))
+    for bit in range(16, 24):
+        i = bit % 3
+        no(17, i, 'bit %d at word %d' % (bit, i), triangle, changed(i, good[i] | 1 << bit))
+    for i in range(3):
+        for what, word in (('kind 8', 0x80000000), ('kind 11', 0xb0000000), ('sort 3', 0x93000000), ('sort 15', 0x9f000000), ('bits 23 to 16', 0x90ff0000),
+                           ('no word of any kind', 0), ('all bits', 0xffffffff)):
+            no(17, i, '%s alone at word %d' % (what, i), triangle, changed(i, word, joints))
+        no(17, i, 'every word wrong from %d on' % i, triangle, good[:i] + (3 - i) * [0x90010000])
+    no(17, 1, 'words 1 and 2 wrong', triangle, [good[0], sort_word(3), 0])
+    no(17, 3, 'no second row', triangle, [])
+    no(17, 3, 'one word', triangle, good[:1])
+    no(17, 3, 'two words', triangle, good[:2])
+    no(17, 3, 'four words', triangle, good + joints[:1])
+    no(17, 3, 'six words', triangle, good + good)
+    no(17, 3, '259 words', triangle, 259 * joints[:1])
+    no(17, 0, 'one word, wrong', triangle, [0])
+    no(17, 1, 'two words, the last wrong', triangle, [good[0], sort_word(4)])
+    for i, word in ((3, 0), (3, sort_word(3)), (3, 0x90010000), (3, 0xffffffff), (4, 0x30000001), (5, sort_word(15)), (9, 0x90800000)):
+        no(17, i, 'word %d behind the third is %08x' % (i, word), triangle, good + (i - 3) * joints[:1] + [word])
+        no(17, i, 'word %d behind the third is %08x, others behind it' % (i, word), triangle, good + (i - 3) * joints[:1] + [word] + good)
+    no(17, 1, 'word 1 and word 4 wrong', triangle, [good[0], 0, good[2], good[0], 0])
+    no(17, 0, 'the list in place of the second row', triangle, triangle)
+    no(17, 2, 'word 2 is a cable', triangle, changed(2, cable(1, 2)))
+
+    # 18: a number above 6,400, or not 0 at a joint.
+    for number in (6399, 6400):
+        put('triangle, pads of %d' % number, triangle, of_gains(-number, -number, -number), [-number, -number] + 2 * [-2 * number] + [-3 * number, -2 * number])
+        put('triangle, joints and an amplifier of %d' % number, triangle, of_gains(0, 0, number), [0, 0, 0, 0, number, number])
+    for k, number in enumerate(TOO_LARGE):
+        for sort in (PAD, AMPLIFIER):
+            p = (k + sort) % 3
+            no(18, p, 'sort %d with %d at part %d' % (sort, number, p), triangle, changed(p, sort_word(sort, number)))
+    for k, number in enumerate((1, 2, 64, 255, 256, 4096, 6400, 6401, 32768, 65535)):
+        no(18, k % 3, 'a joint with %d at part %d' % (number, k % 3), triangle, changed(k % 3, sort_word(JOINT, number)))
+    no(18, 1, 'parts 1 and 2', triangle, [good[0], sort_word(JOINT, 1), sort_word(PAD, 6401)])
+    no(18, 0, 'all three parts', triangle, [sort_word(PAD, 65535), sort_word(JOINT, 65535), sort_word(AMPLIFIER, 65535)])
+    no(18, 3, 'the last part of 4', chain_4, of_gains(1, 2, 3) + [sort_word(AMPLIFIER, 6401)])
+
+    # 17 before 18, wherever the words stand.
+    for bad in (sort_word(PAD, 6401), sort_word(JOINT, 1)):
+        no(17, 2, '17 at 2 before 18 at 0 with %08x' % bad, triangle, [bad, good[1], sort_word(3)])
+        no(17, 3, 'a word too many before 18 with %08x' % bad, triangle, [bad] + good)
+        no(17, 3, 'a word too few before 18 with %08x' % bad, triangle, [bad] + good[:1])
+        no(17, 4, 'a wrong word behind before 18 with %08x' % bad, triangle, [bad] + good + [0])
+        no(17, 3, 'behind the n-th word %08x' % bad, triangle, good + [bad])
+    no(17, 0, 'sort 3 with 65535', triangle, changed(0, 0x9300ffff))
+    no(17, 1, 'kind 8 with 65535', triangle, changed(1, 0x8100ffff))
+    no(17, 2, 'bit 16 and all below', triangle, changed(2, 0x9101ffff))
+
+    # Checks 1 to 10 come first, whatever the second row is.
+    first = {}
+    for name, words in boundaries():
+        due = name.split(',')[0].split()
+        if due[0] == 'refused':
+            first.setdefault(int(due[1]), (int(due[2]), words))
+    for check, (place, words) in sorted(first.items()):
+        for what, sorts in (('a good row', good), ('no row', []), ('17', [0, 0, 0]), ('18', changed(0, sort_word(JOINT, 1))), ('a word too many', good + [0])):
+            no(check, place, 'check %d with %s' % (check, what), words, sorts)
+    no(10, 511, '10 of 512 parts before 17', build(512, 0, 1, sorted(hung_on_last(512)[1])), [])
+    no(9, 511, '9 of 512 parts before 18', build(512, 0, 1, sorted(ring(511)[1])), 512 * [sort_word(JOINT, 1)])
+    no(4, 513, '513 parts with 513 words', ring_list(513), 513 * joints[:1])
+
+    # 256 to 512 parts. The greatest level that there may be is 512 times 6,400, which is 51,200 dB.
+    for n in (256, 257, 511, 512):
+        for k, what in ((6400, 'amplifiers'), (-6400, 'pads')):
+            rising('chain of %d %s of 6400' % (n, what), n, chain(n)[1], of_gains(*n * [k]))
+        rising('ring of %d, amplifiers of 6400' % n, n, ring(n)[1], of_gains(*n * [6400]))
+    n, odd = 512, [p % 2 for p in range(512)]
+    rising('chain of 512 joints', n, chain(n)[1], n * joints[:1])
+    rising('chain of 512 amplifiers, one of 6399', n, chain(n)[1], of_gains(6399, *511 * [6400]))
+    rising('chain of 256 amplifiers and 256 pads of 6400', n, chain(n)[1], of_gains(*256 * [6400], *256 * [-6400]))
+    rising('chain of 256 pads and 256 amplifiers of 6399', n, chain(n)[1], of_gains(*256 * [-6399], *256 * [6399]))
+    rising('chain of 512, an amplifier and a pad in turn', n, chain(n)[1], of_gains(*256 * [6400, -6400]))
+    rising('chain of 512 amplifiers of 1', n, chain(n)[1], of_gains(*n * [1]))
+    put('chain of 512 reversed, gains rise with the numbers', reversed_list(*chain(n)), of_gains(*(12 * p for p in range(n))),
+        [level for p in range(n) for level in 2 * [sum(12 * q for q in range(p, n))]])
+    rng = random.Random(8)
+
+    def mixed():
+        return of_gains(*(rng.randint(-6400, 6400) for _ in range(n)))
+
+    number = rng.sample(range(n), n)
+    due = {number[k]: 6400 * (k + 1) for k in range(n)}
+    put('chain of 512 shuffled, amplifiers of 6400', build(n, number[0], number[-1], rng.sample([*zip(number, number[1:])], n - 1)), of_gains(*n * [6400]),
+        [level for p in range(n) for level in 2 * [due[p]]])
+    for what, (_, cables) in (('ladder', ladder(n)), ('grid', near_square(n)), ('next and next but one', second_neighbours(n)), ('triangles in a row', triangles(n)),
+                              ('doubled chain', doubled(*chain(n))), ('chain of pairs', pair_chain(n)), ('pair ladder', pair_ladder(n // 2))):
+        rising('512 parts: %s, amplifiers of 6400' % what, n, cables, of_gains(*n * [6400]))
+        rising('512 parts: %s, pads of 6400 at odd parts' % what, n, cables, of_gains(*(-6400 * k for k in odd)))
+        rising('512 parts: %s, any' % what, n, cables, mixed())
+    for what, (_, cables) in (('ladder', ladder(n)), ('grid', near_square(n)), ('four-regular', four_regular(rng, n)), ('random', of_ears(rng, n)),
+                              ('random, with repeated cables', repeated(rng, *of_ears(rng, n)))):
+        words = listed(rng, n, cables, *rng.sample(range(n), 2))
+        put('512 parts: %s shuffled, any' % what, words, mixed())
+        put('512 parts: %s shuffled, amplifiers of 6400' % what, words, of_gains(*n * [6400]))
+    put('512 parts: four-regular reversed, any', reversed_list(*four_regular(rng, n)), mixed())
+    put('512 parts: rails, any', rails(n), mixed())
+
+    # Second rows of many words.
+    full, row = chain_list(n), of_gains(*n * [6400])
+    for count in (0, 1, 255, 256, 511, 513, 768, 1024):
+        no(17, 512, '512 parts with %d words' % count, full, 1024 * joints[:1] if count == 1024 else (row + row)[:count])
+    no(17, 511, '512 parts, the last word of sort 3', full, row[:-1] + [sort_word(3)])
+    no(17, 512, '512 parts, a wrong word behind', full, row + [0])
+    no(17, 1023, '512 parts with 1024 words, the last wrong', full, row + row[:-1] + [0])
+    no(17, 256, '512 parts, word 256 wrong, and 18 before it', full, changed(0, sort_word(PAD, 6401), changed(256, 0x90010000, row)))
+    no(18, 511, '512 parts, the last a joint with 1', full, row[:-1] + [sort_word(JOINT, 1)])
+    no(18, 256, '512 parts, 6401 at 256 and at 511', full, changed(256, sort_word(PAD, 6401), row[:-1] + [sort_word(AMPLIFIER, 6401)]))
+    no(17, 257, '257 parts with one word', chain_list(257), joints[:1])
+    no(17, 256, '256 parts with 257 words', chain_list(256), 257 * joints[:1])
+    return out
+
+
 def files():
     """(name, bytes, first line due) about the length of a file."""
     triangle = b''.join(w.to_bytes(4, 'big')

@@ -8,6 +8,8 @@
   measure.py --editor [WORD..]     as a table: instructions of `dovranis_propose` and `dovranis_commit` and of their like in baseline.c, on
                                    rows of 256 and of 512 parts
   measure.py --canonical [WORD..]  as a table: instructions of `dovranis_canonicalize` and of its like in baseline.c
+  measure.py --levels [WORD..]     as a table: instructions of `dovranis_levels` and of its like in baseline.c, and of these what checks 1 to 10 and
+                                   the order do not take
   measure.py --functions [WORD..]  where the instructions go, on stations of 512 parts
   measure.py --passes [WORD..]     instructions on stations of 512 parts, with baseline.c in its simpler form too: a depth-first pass at
                                    each rank
@@ -17,7 +19,8 @@
   --parts N                        with --functions or --passes: stations of N parts
   --archive FILE                   takes this archive, and neither proves nor builds one; it may be without `dovranis_draw_quoted`, but for --quoted, without
                                    `dovranis_draw_spaced` and `dovranis_draw_quoted_spaced`, but for --spaced, without `dovranis_propose` and
-                                   `dovranis_commit`, but for --editor, and without `dovranis_canonicalize`, but for --canonical
+                                   `dovranis_commit`, but for --editor, without `dovranis_canonicalize`, but for --canonical, and without
+                                   `dovranis_levels`, but for --levels; for --stack it has all of them
 
 It needs cc, nm, objdump and valgrind. Instructions are callgrind's, of one call and all that it calls. Time is the best of many rounds, a round being
 as many calls as take 20 microseconds; the two have four rounds each in turn. Both answers are compared. It is no part of the gate."""
@@ -203,6 +206,36 @@ int main(int argc, char **argv) {
 }
 '''
 
+LEVELS_DRIVER = r'''
+#include <stdio.h>
+#include <stdlib.h>
+#include <string.h>
+#include "dovranis.h"
+
+uint32_t baseline_levels(const uint32_t *, size_t, const uint32_t *, size_t, float *, size_t, size_t *, size_t *);
+
+enum { MOST = 1 << 20 };
+
+struct answer { uint32_t result; float levels[8192]; size_t floats, place; };
+
+/* FILE COUNT ROOM ours|baseline|both; FILE has the COUNT words of a list and behind them the sorts. Before the call each float is a NaN. */
+int main(int argc, char **argv) {
+    static struct answer answers[2];
+    static uint32_t words[MOST];
+    if (argc != 5) return 2;
+    FILE *f = fopen(argv[1], "rb");
+    size_t both = fread(words, 4, MOST, f), count = atol(argv[2]), room = atol(argv[3]);
+    memset(answers, 0xff, sizeof answers);
+    for (int i = 0; i < 2; i++) {
+        struct answer *a = &answers[i];
+        if (!strcmp(argv[4], i ? "ours" : "baseline")) continue;
+        a->result = (i ? baseline_levels : dovranis_levels)(words, count, words + count, both - count, a->levels, room, &a->floats, &a->place);
+    }
+    printf("%d %u\n", memcmp(&answers[0], &answers[1], sizeof answers[0]) == 0, answers[0].result);
+    return 0;
+}
+'''
+
 # Each call is made twice on a stack of its own, painted with one pattern and then with another; what it takes is told by the lowest byte
 # that is no longer as painted.
 STACK_DRIVER = r'''
@@ -226,10 +259,12 @@ both baseline_draw_quoted_spaced;
 propose baseline_propose;
 commit baseline_commit;
 uint32_t baseline_canonicalize(const uint32_t *, size_t, uint32_t *, size_t, size_t *, size_t *);
+uint32_t baseline_levels(const uint32_t *, size_t, const uint32_t *, size_t, float *, size_t, size_t *, size_t *);
 
 enum { STACK = 1 << 20, MOST = 1 << 17, ROOM = 8192 };
 
 static uint32_t row[MOST], list[MOST], sheet[ROOM], version, result;
+static float levels[ROOM];
 static uint32_t k[6];       /* the call, the count of words, and four numbers that the call is given */
 static size_t words, crossings, place, sum;
 static int theirs;
@@ -250,8 +285,9 @@ static __attribute__((noinline)) void ask(void) {
     case 4: result = OF(propose)(list, k[1], k[2], k[3], &version, &place); break;
     case 5: result = OF(commit)(list, k[1], p, &place); break;
     case 6: result = OF(canonicalize)(list, k[1], sheet, ROOM, &words, &place); break;
-    case 7: if (!theirs) sum += dovranis_most_words(); break;
-    case 8: if (!theirs) sum += dovranis_most_quoted_words(); break;
+    case 7: result = OF(levels)(list, k[1] - k[2], list + k[1] - k[2], k[2], levels, k[3], &words, &place); break;  /* the last k[2] words are sorts */
+    case 8: if (!theirs) sum += dovranis_most_words(); break;
+    case 9: if (!theirs) sum += dovranis_most_quoted_words(); break;
     }
 }
 
@@ -278,7 +314,7 @@ int main(int argc, char **argv) {
     while (fread(k, 4, 6, f) == 6 && fread(row, 4, k[1], f) == k[1]) {
         for (theirs = 0; theirs < 2; theirs++) {
             long one = taken(0x5a), other = taken(0xa5);
-            printf("%ld %u ", one > other ? one : other, k[0] < 7 ? result : 0);
+            printf("%ld %u ", one > other ? one : other, k[0] < 8 ? result : 0);
         }
         puts("");
     }
@@ -585,14 +621,68 @@ def canonical(driver, asked):
                                                  '%.1f' % (i / j)])), flush=True)
 
 
+# The levels. The lists, as (name, words, sorts, length of output).
+
+def sorts_of(name, words):
+    """Joints, pads and amplifiers by chance, for each part."""
+    rng = random.Random(name)
+    return lists.of_gains(*(rng.choice((-1, 0, 1)) * rng.randint(0, lists.MOST_NUMBER) for _ in range(reference.list_head(words[0])[0])))
+
+
+def levelled():
+    """All stations with their sorts. Then one of 1,024 cables with sorts that 17 and 18 refuse, the fault as far behind as it can be, and with an output that
+    11 does. There is no longest row for 17: a million, the last of no sort, or each one good."""
+    for name, words, room in stations():
+        yield name, words, sorts_of(name, words), room
+    words = lists.build(512, 0, 511, sorted(lists.four_regular(random.Random(17), 512)[1]))
+    sorts = sorts_of('refused', words)
+    many = (1000000 // len(sorts) + 1) * sorts
+    yield 'refused 17', words, many[:999999] + [lists.sort_word(3)], ROOM
+    yield 'refused 17, count', words, many[:1000000], ROOM
+    yield 'refused 18', words, sorts[:-1] + [lists.sort_word(lists.PAD, lists.MOST_NUMBER + 1)], ROOM
+    yield 'refused 11', words, sorts, 1023
+
+
+class LevelsDriver(Linked):
+    def __init__(self, folder, archive):
+        if 'dovranis_levels' not in functions_of(archive):
+            sys.exit('the archive has no dovranis_levels')
+        super().__init__(folder, archive, LEVELS_DRIVER, [])
+        self.staged = Linked(os.path.join(folder, 'stages'), archive, LEVELS_DRIVER, ['-DBASELINE_STAGES'])
+
+    def instructions(self, name, words, sorts, room):
+        """Of ours and of the baseline, whose answers are compared. Of each also without checks 1 to 10 and the order: ours makes them before it looks at the
+        sorts, so that a call without any, which 17 refuses, takes nothing else; the baseline has functions of its own for the rest."""
+        def asked(which, sorts):
+            return [self.keep(words + sorts), str(len(words)), str(room), which]
+
+        got = subprocess.run([self.program, *asked('both', sorts)], check=True, stdout=subprocess.PIPE, text=True).stdout.split()
+        if got != ['1', str(check_of(name)) if name.startswith('refused') else '0']:
+            sys.exit('%s: the answers differ, or the result is %s' % (name, got[1]))
+        ours, empty = (self.traced('dovranis_levels', asked('ours', row))[1] for row in (sorts, []))
+        theirs = self.traced('baseline_levels', asked('baseline', sorts))[1]
+        rest = self.staged.traced('check_sorts*', asked('baseline', sorts), ['--toggle-collect=write_levels*'])[1]
+        return ours, theirs, ours - empty, rest
+
+
+def levels(driver, asked):
+    print('| list | sorts | instructions | baseline | ratio | beyond the order | a sort | baseline | a sort |\n|---|' + '---:|' * 8)
+    for name, words, sorts, room in chosen(levelled(), asked):
+        i, j, more, rest = driver.instructions(name, words, sorts, room)
+        count = len(sorts)
+        print('| %s | %s |' % (name, ' | '.join(['{:,}'.format(count), '{:,}'.format(i), '{:,}'.format(j), '%.1f' % (i / j), '{:,}'.format(more),
+                                                 '%.1f' % (more / count), '{:,}'.format(rest), '%.1f' % (rest / count)])), flush=True)
+
+
 # The stack.
 
-CALLS = 'draw', 'draw_quoted', 'draw_spaced', 'draw_quoted_spaced', 'propose', 'commit', 'canonicalize', 'most_words', 'most_quoted_words'
+CALLS = ('draw', 'draw_quoted', 'draw_spaced', 'draw_quoted_spaced', 'propose', 'commit', 'canonicalize', 'levels', 'most_words',
+         'most_quoted_words')
 
 
 def stack_calls():
-    """(name, call, its four numbers, words) on the largest stations, drawn and refused, on the rows of named runs, and on the
-    largest lists that have a canonical form by name."""
+    """(name, call, its four numbers, words) on the largest stations, drawn and refused, on the rows of named runs, on the largest
+    lists that have a canonical form by name, and on the largest that have levels by name, with outputs that are too short too."""
     fits, wide = (DISCOUNT, *SPACING), (DISCOUNT, 64, 64, 255)
     for name, words in lists.boundaries():
         if lists.is_large(words):
@@ -600,6 +690,8 @@ def stack_calls():
                 yield name, call, fits, words
             yield name + ', 14', 3, wide, words
             yield name, 6, 4 * (0,), words
+            sorts = sorts_of(name, words)
+            yield name, 7, (len(sorts), ROOM, 0, 0), words + sorts
     for name, row, operations in lists.edits():
         if lists.is_large(row):
             for _, (what, one, other, version) in operations:
@@ -607,7 +699,11 @@ def stack_calls():
     for name, words, _ in lists.canonicals():
         if lists.is_large(words):
             yield name, 6, 4 * (0,), words
-    for call in (7, 8):
+    for name, words, sorts, _ in lists.levels():
+        if lists.is_large(words):
+            for room in (0, ROOM):
+                yield name, 7, (len(sorts), room, 0, 0), words + sorts
+    for call in (8, 9):
         yield '', call, 4 * (0,), []
 
 
@@ -627,11 +723,11 @@ def stack(linked):
     print('The header asks for {:,} bytes.\n'.format(door.STACK))
     print('| call | bytes | on | baseline |\n|---|---:|---|---:|')
     for call, (ours, name, theirs) in sorted(most.items()):
-        print('| `dovranis_%s` | %s | %s | %s |' % (CALLS[call], '{:,}'.format(ours), name, '{:,}'.format(theirs) if call < 7 else ''))
+        print('| `dovranis_%s` | %s | %s | %s |' % (CALLS[call], '{:,}'.format(ours), name, '{:,}'.format(theirs) if call < 8 else ''))
 
 
-# Where the instructions go. The archive has one large function with most others inside: the call, or one that it calls. So each of its instructions is given to
-# the first stage that runs it, told by lists that are refused there, and below that to its loops, told by their backward jumps.
+# Where the instructions go. The archive has two large functions with most others inside: checks with the order, and the drawing. So each of their
+# instructions is given to the first stage that runs it, told by lists that are refused there, and below that to its loops, told by their backward jumps.
 
 STAGES = (('checks 1 to 8', [1, 2, 3, 4, 5, 6, 8]), ('check 9', [9]), ('check 10', [10]), ('order, columns, courses', [11]))
 LAST = 'words, crossings'
@@ -718,23 +814,28 @@ def say_functions(by_name, total):
 def functions(driver, staged, asked, parts):
     known, stage_of = {check_of(name): (words, room) for name, words, room in refusals()}, {}
     drawn = costs(driver.trace('ours', *known[11], ['--dump-instr=yes'])[0])[1]
-    large = max(drawn, key=lambda function: len(drawn[function]))
+    large = sorted(drawn, key=lambda function: -len(drawn[function]))[:2]
     for stage, checks in STAGES:
         for check in checks:
             words, room = known[check]
-            for address in costs(driver.trace('ours', words, room, ['--dump-instr=yes'])[0])[1].get(large, ()):
-                stage_of.setdefault(address, stage)
-    spans = backward_jumps(driver.program, large)
+            by_address = costs(driver.trace('ours', words, room, ['--dump-instr=yes'])[0])[1]
+            for function in large:
+                for address in by_address.get(function, ()):
+                    stage_of.setdefault(address, stage)
+    spans = {function: backward_jumps(driver.program, function) for function in large}
     for name, words, room in chosen(stations((parts,)), asked):
         n, m = reference.list_head(words[0])
         by_name, by_address = costs(driver.trace('ours', words, room, ['--dump-instr=yes'])[0])
-        by_address, total = by_address[large], sum(by_name.values())
+        total = sum(by_name.values())
         print('%s: %s instructions, n = %d, m = %d' % (name, '{:,}'.format(total), n, m))
         say_functions(by_name, total)
-        for stage in [stage for stage, _ in STAGES] + [LAST]:
-            cost = {a: c for a, c in by_address.items() if stage_of.get(a, LAST) == stage}
-            print('    %5.1f %%  %s' % (100 * sum(cost.values()) / total, stage))
-            say_loops(spans, cost, total, min(by_address), n, m)
+        for function in large:
+            print('  of %s:' % function)
+            for stage in [stage for stage, _ in STAGES] + [LAST]:
+                cost = {a: c for a, c in by_address[function].items() if stage_of.get(a, LAST) == stage}
+                if cost:
+                    print('    %5.1f %%  %s' % (100 * sum(cost.values()) / total, stage))
+                    say_loops(spans[function], cost, total, min(by_address[function]), n, m)
         path, total = staged.trace('baseline', words, room, ['--dump-instr=yes'])
         print('  baseline: %s instructions' % '{:,}'.format(total))
         say_functions(costs(path)[0], total)
@@ -800,6 +901,8 @@ def main(args):
             return editor(EditorDriver(os.path.join(folder, 'editor'), archive), asked)
         if '--canonical' in args:
             return canonical(CanonicalDriver(os.path.join(folder, 'canonical'), archive), asked)
+        if '--levels' in args:
+            return levels(LevelsDriver(os.path.join(folder, 'levels'), archive), asked)
         if '--stack' in args:
             return stack(Linked(os.path.join(folder, 'stack'), archive, STACK_DRIVER, []))
         driver = Driver(os.path.join(folder, 'plain'), archive)

@@ -44,7 +44,7 @@ counted-joined cs u v h =
     line-joined cs u v (p .0) (p .1) (rw (p .2) (pair-e (t .0 .one) (t .0 .other) u v (t .2)))
 
 -- cables that join the same parts
-abbrev JoinsOf : List Cable → List Cable → Type 0
+abbrev pub JoinsOf : List Cable → List Cable → Type 0
 JoinsOf cs ds = (u v : ℕ) → Joined cs u v → Joined ds u v
 
 module _ {cs ds : List Cable} (J : JoinsOf cs ds) where
@@ -107,10 +107,10 @@ smallest-same st ds J K S = record {
 }
 
 module _ {st su : Station} (S : SameStation st su) where
-  joins-to : JoinsOf (st .cables) (su .cables)
+  pub joins-to : JoinsOf (st .cables) (su .cables)
   joins-to u v j = counted-joined (su .cables) u v (omega (arith, S .cables u v, joined-counted (st .cables) u v j))
 
-  joins-from : JoinsOf (su .cables) (st .cables)
+  pub joins-from : JoinsOf (su .cables) (st .cables)
   joins-from u v j = counted-joined (st .cables) u v (omega (arith, S .cables u v, joined-counted (su .cables) u v j))
 
   same-ends : cabled st (su .cables) ≡ su

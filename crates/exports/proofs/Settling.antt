@@ -11,7 +11,8 @@ use Rattle.canonical.specs.declared.Canonicalized.{Canonicalized}
 use Rattle.canonical.specs.declared.Canonicalized.the-variants.{Written, Refused}
 use Rattle.canonical.specs.Outcome.{canonicalOutcome, answerTo, Canonicalizes}
 use Rattle.canonical.proofs.Answers.{TooShort, canonicalize-refusals}
-use Rattle.exports.specs.CanonicalForm.{counted, Settled}
+use Rattle.exports.specs.Counts.{counted}
+use Rattle.exports.specs.CanonicalForm.{Settled}
 
 module _ {list before after : List ℕ} where
   -- no refusal has the number 0

@@ -2,7 +2,8 @@
 use crate::refuse;
 use canonical::Canonicalized;
 use canonicalizing::canonicalize;
-ghost use Rattle.exports.specs.CanonicalForm.{counted, Settled};
+ghost use Rattle.exports.specs.Counts.{counted};
+ghost use Rattle.exports.specs.CanonicalForm.{Settled};
 
 // `canonicalizing::canonicalize`: 0 with the count of words stored, or the check's number with its place stored.
 #[no_mangle]

@@ -4,8 +4,9 @@ use Prim.Native.Nat.{ℕ, zero, suc, _+_, _<_, _≤_}
 use native.Mathlib.Omega.{arith}
 use native.Mathlib.Numerals.{add-one}
 use mathlib.Core.Path.{_≡_, refl, sym, ap, _∙_}
-use mathlib.Core.Bool.{Bool, true, false, cond, _&&_}
-use mathlib.Core.List.{List, [], _∷_, List·Memᴰ, List·Memᴰ·head, List·Memᴰ·tail}
+use mathlib.Core.Logic.{_⊎_, inl, inr}
+use mathlib.Core.Bool.{Bool, true, false, cond, _&&_, false≢true}
+use mathlib.Core.List.{List, [], _∷_, List·Memᴰ, List·Memᴰ·head, List·Memᴰ·tail, List·Memᴰ·cases-cons}
 use lib.ListN.{length, getD, drop, drop-of-length-le}
 use lib.Seq.{drop-cons}
 use borrow.Author.Tests.{ne-eqb}
@@ -46,6 +47,23 @@ module _ {A : Type 0} where
       go : (b : Bool) → length (filter p xs) ≤ length xs → length (consIf b x (filter p xs)) ≤ suc (length xs)
       go true h = omega arith
       go false h = omega arith
+
+module _ {A : Type 0} where
+  pub consIf-e : {x y : A} {l : List A} (b : Bool) → List·Memᴰ x (consIf b y l) → ((b ≡ true) × (x ≡ y)) ⊎ List·Memᴰ x l
+  consIf-e {x} {y} {l} true m = go (List·Memᴰ·cases-cons m)
+    where
+      go : (x ≡ y) ⊎ List·Memᴰ x l → ((true ≡ true) × (x ≡ y)) ⊎ List·Memᴰ x l
+      go (inl e) = inl (refl, e)
+      go (inr n) = inr n
+  consIf-e false m = inr m
+
+  pub consIf-here : {x y : A} (l : List A) (b : Bool) → b ≡ true → x ≡ y → List·Memᴰ x (consIf b y l)
+  consIf-here l true e q = List·Memᴰ·head q
+  consIf-here l false e q = absurd (false≢true e)
+
+  pub consIf-there : {x : A} {l : List A} (y : A) (b : Bool) → List·Memᴰ x l → List·Memᴰ x (consIf b y l)
+  consIf-there y true m = List·Memᴰ·tail m
+  consIf-there y false m = m
 
 pub length-consIf : {A : Type 0} (b : Bool) (x : A) (l : List A) → length (consIf b x l) ≡ oneIf b + length l
 length-consIf true x l = omega arith

@@ -1,14 +1,15 @@
 -- What it means that a cable joins two parts: some line names them, one way round or the other. Assumes nothing.
 use Prim.Native.Nat.{ℕ, zero, suc, _<_}
 use native.Mathlib.Omega.{arith}
-use mathlib.Core.Path.{_≡_, refl, sym}
+use mathlib.Core.Path.{_≡_, sym}
 use mathlib.Core.Logic.{_⊎_, inl, inr}
-use mathlib.Core.Bool.{Bool, true, false, false≢true}
-use mathlib.Core.List.{List, [], _∷_, List·Memᴰ, List·Memᴰ·head, List·Memᴰ·tail, List·Memᴰ·cases-cons, List·Memᴰ·not-nil}
+use mathlib.Core.Bool.{true}
+use mathlib.Core.List.{List, [], _∷_, List·Memᴰ, List·Memᴰ·not-nil}
 use lib.ListN.{length, getD}
 use lib.Dec.{eqb}
 use borrow.Author.Tests.{eqb-true, eq-eqb}
 use Rattle.lists.specs.Select.{consIf}
+use Rattle.lists.proofs.Filters.{consIf-e, consIf-here, consIf-there}
 use Rattle.station.specs.Station.{Cable, Station, noCable}
 use Rattle.station.specs.Code.{Wired}
 use Rattle.order.specs.Reach.{neighbours, Joined}
@@ -24,22 +25,6 @@ Between c u v = ((c .one ≡ u) × (c .other ≡ v)) ⊎ ((c .one ≡ v) × (c .
 pub between-sym : {c : Cable} {u v : ℕ} → Between c u v → Between c v u
 between-sym (inl b) = inr b
 between-sym (inr b) = inl b
-
-consIf-e : {x y : ℕ} {l : List ℕ} (b : Bool) → List·Memᴰ x (consIf b y l) → ((b ≡ true) × (x ≡ y)) ⊎ List·Memᴰ x l
-consIf-e {x} {y} {l} true m = go (List·Memᴰ·cases-cons m)
-  where
-    go : (x ≡ y) ⊎ List·Memᴰ x l → ((true ≡ true) × (x ≡ y)) ⊎ List·Memᴰ x l
-    go (inl e) = inl (refl, e)
-    go (inr n) = inr n
-consIf-e false m = inr m
-
-consIf-here : {x y : ℕ} (l : List ℕ) (b : Bool) → b ≡ true → x ≡ y → List·Memᴰ x (consIf b y l)
-consIf-here l true e q = List·Memᴰ·head q
-consIf-here l false e q = absurd (false≢true e)
-
-consIf-there : {x : ℕ} {l : List ℕ} (y : ℕ) (b : Bool) → List·Memᴰ x l → List·Memᴰ x (consIf b y l)
-consIf-there y true m = List·Memᴰ·tail m
-consIf-there y false m = m
 
 -- a line of the list joins the two
 abbrev pub Lined : List Cable → ℕ → ℕ → Type 0

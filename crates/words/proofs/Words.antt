@@ -4,7 +4,7 @@ use Prim.Native.Nat.{ℕ, _<_, _^_, _≤_}
 use mathlib.Core.Path.{_≡_}
 use native.Mathlib.Omega.{arith}
 use Rattle.words.specs.Limits.{mostField}
-use Rattle.words.specs.Words.{kindOf, spareOf, firstOf, secondOf, fields, listHead, listHeadWord, partsOf, cablesOf, lineFields, lineOf, wideField, wideOf}
+use Rattle.words.specs.Words.{kindOf, spareOf, firstOf, secondOf, fields, listHead, listHeadWord, partsOf, cablesOf, lineFields, lineOf, wideField, wideOf, partSort, partSortWord, sortOf, sortSpareOf, stepsOf}
 
 -- a word with two 12-bit fields: kinds 2 to 5 and 7
 pub record Fields (kind a b w : ℕ) : Type 0 where
@@ -45,3 +45,14 @@ pub record WideField (kind a w : ℕ) : Type 0 where
 
 pub wideField-apart : (kind a : ℕ) → kind < 16 → a < 2 ^ 28 → WideField kind a (wideField kind a)
 wideField-apart kind a hk ha = omega arith
+
+-- kind 9
+pub record PartSort (sort steps w : ℕ) : Type 0 where
+  pub kind-is : kindOf w ≡ partSort
+  pub sort-is : sortOf w ≡ sort
+  pub no-spare : sortSpareOf w ≡ 0
+  pub steps-is : stepsOf w ≡ steps
+  pub fits : w < 2 ^ 32
+
+pub partSort-apart : (sort steps : ℕ) → sort < 16 → steps < 65536 → PartSort sort steps (partSortWord sort steps)
+partSort-apart sort steps hs hn = omega arith

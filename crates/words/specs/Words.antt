@@ -1,5 +1,5 @@
--- Document 01, 'The words', the two kinds of request 2026-01 and the one of 2026-05: each kind of word made and taken apart, over ℕ.
--- Assumes nothing.
+-- Document 01, 'The words', the two kinds of request 2026-01, the one of 2026-05 and the one of 2026-08: each kind of word made and taken
+-- apart, over ℕ. Assumes nothing.
 use Prim.Native.Nat.{ℕ, _+_, _*_, _/_, _%_}
 
 -- 'The top four bits (31 to 28) are the kind.'
@@ -119,3 +119,30 @@ priceWord cents = wideField price cents
 
 abbrev pub centsOf : ℕ → ℕ
 centsOf w = wideOf w
+
+-- 2026-08: 'words of kind 9, by part number', the sorts of the parts
+abbrev pub partSort : ℕ
+partSort = 9
+
+-- 'with the sort in bits 27 to 24: 0 a joint without a number, 1 a pad with its loss, 2 an amplifier with its gain'
+abbrev pub jointSort : ℕ
+jointSort = 0
+
+abbrev pub padSort : ℕ
+padSort = 1
+
+abbrev pub amplifierSort : ℕ
+amplifierSort = 2
+
+-- 'Bits 23 to 16 are zero, and bits 15 to 0 count 1/64 dB'
+abbrev pub partSortWord : ℕ → ℕ → ℕ
+partSortWord sort steps = partSort * 0x1000_0000 + sort * 0x100_0000 + steps
+
+abbrev pub sortOf : ℕ → ℕ
+sortOf w = w / 0x100_0000 % 16
+
+abbrev pub sortSpareOf : ℕ → ℕ
+sortSpareOf w = w / 65536 % 256
+
+abbrev pub stepsOf : ℕ → ℕ
+stepsOf w = w % 65536

@@ -1,0 +1,2 @@
+-- What the patterns of floats rest on. Assumes nothing.
+pub mod Nan

@@ -1,0 +1,3 @@
+-- Laws that the pass over the ranks rests on. Assumes nothing.
+pub mod Arriving
+pub mod Passing

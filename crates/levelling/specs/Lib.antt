@@ -1,0 +1,2 @@
+-- What the pass over the ranks keeps. Assumes nothing.
+pub mod Pass

@@ -1,0 +1,1 @@
+-- Laws that the code of signals rests on. Assumes nothing.
