@@ -7,14 +7,17 @@
  * order of the parts, the columns and rows of a sheet, and worked examples.
  *
  * Contracts: crates/exports/src/lib.rt has those of the calls that draw, crates/exports/src/operations.rt those of the
- * editor's, crates/exports/src/canonical_form.rt that of dovranis_canonicalize, and crates/exports/src/signal_levels.rt
- * that of dovranis_levels. They cite Call.antt, Editing.antt, CanonicalForm.antt and SignalLevels.antt in
- * crates/exports/specs, which say what answer a result and the lent numbers stand for. The answer itself is that of
- * drafting::draw (crates/drafting/src/lib.rt, by `Drew` in crates/hookup/specs/Answer.antt), of editing::propose and
- * editing::commit (crates/editing/src/lib.rt, by `proposed` and `effect` in crates/editor/specs/Operations.antt), of
+ * editor's, crates/exports/src/canonical_form.rt that of dovranis_canonicalize, crates/exports/src/signal_levels.rt
+ * that of dovranis_levels, and crates/exports/src/sheet_check.rt that of dovranis_check_sheet. They cite Call.antt,
+ * Editing.antt, CanonicalForm.antt, SignalLevels.antt and SheetCheck.antt in crates/exports/specs, which say what
+ * answer a result and the lent numbers stand for. The answer itself is that of drafting::draw
+ * (crates/drafting/src/lib.rt, by `Drew` in crates/hookup/specs/Answer.antt), of editing::propose and editing::commit
+ * (crates/editing/src/lib.rt, by `proposed` and `effect` in crates/editor/specs/Operations.antt), of
  * canonicalizing::canonicalize (crates/canonicalizing/src/lib.rt, by `Canonicalizes` in
- * crates/canonical/specs/Outcome.antt), or of levelling::find_levels (crates/levelling/src/lib.rt, by `FindsLevels` in
- * crates/levels/specs/Outcome.antt). A law that is named below without a file is in crates/exports/proofs/Calls.antt.
+ * crates/canonical/specs/Outcome.antt), of levelling::find_levels (crates/levelling/src/lib.rt, by `FindsLevels` in
+ * crates/levels/specs/Outcome.antt), or of validating::check_sheet (crates/validating/src/lib.rt, by `Validates` in
+ * crates/validation/specs/Outcome.antt). A law that is named below without a file is in
+ * crates/exports/proofs/Calls.antt.
  *
  *
  * WORDS
@@ -46,10 +49,10 @@
  *
  * RESULTS AND CHECKS
  *
- * A result of 0 is a sheet, a proposal, a cable added, a canonical list or levels, and any other is the number of the
- * check that refuses. Every list, every row and every number is answered. A refusal stores its place and nothing else.
- * Each check is made over the whole list, 17 and 18 over all sorts, before the next, and the first that applies is the
- * refusal.
+ * A result of 0 is a sheet, a proposal, a cable added, a canonical list, levels or a sheet that is accepted, and any
+ * other is the number of the check that refuses. Every list, every row and every number is answered. A refusal stores
+ * its place and nothing else. Each check is made over the whole list, 17 and 18 over all sorts, 19 and 20 over the
+ * sheet, before the next, and the first that applies is the refusal.
  *
  *   number  condition                                                                     place
  *   1       fewer than two words                                                          words found
@@ -75,6 +78,10 @@
  *   17      sorts other than n words, or one of a wrong kind, with a sort above 2, or     first such word, or n where
  *           with any of its bits 23 to 16 set                                             only their count is wrong
  *   18      a sort whose number is above 6,400, or not 0 at a joint                       lowest such part
+ *   19      a word of the sheet is out of the layout or missing, or is a point beyond
+ *           the sheet's head                                                              first such word
+ *   20      a cable of the sheet breaks the rules by itself, or, where none does, two     lowest such cable, or lowest
+ *           cables meet wrongly                                                           cable of any such pair
  *
  * Of the lists that pass 1 to 9, check 10 refuses exactly those whose parts have no st-ordering from source to analyser
  * (`passes-iff` in crates/order/proofs/SeparatingParts.antt). A chain of parts between the two passes.
@@ -88,6 +95,7 @@
  *   dovranis_commit               1 to 8 of the list in the row, 15, 5, 6 and 8 of the new cable, 16
  *   dovranis_canonicalize                 1 to 8,      11
  *   dovranis_levels                       1 to 10 of the list, 17 and 18 of the sorts, 11
+ *   dovranis_check_sheet                  1 to 10 of the list, 19 and 20 of the sheet
  *
  *
  * WHAT HOLDS OF EVERY SHEET
@@ -123,8 +131,10 @@
  * - The rows and the numbers of a call lie apart: no two of them overlap.
  * - Until the call returns nothing else writes what is lent as const, and nothing else reads or writes the rest. Before
  *   the call the output and the numbers may hold anything, an output of floats NaNs too.
- * - There are 128 KiB of stack. The proofs do not bound the stack; the tests call with so much. On stations of up to
- *   512 parts the calls that draw were seen to take 72,872 bytes of it, dovranis_levels 25,896, and the others 2,216.
+ * - There are 128 KiB of stack, and 256 KiB for dovranis_check_sheet. The proofs do not bound the stack; the tests call
+ *   with so much. On stations of up to 512 parts the calls that draw were seen to take 72,872 bytes of it,
+ *   dovranis_levels 25,896, dovranis_check_sheet 221,144, and the others 2,216. What dovranis_check_sheet takes is
+ *   for tables of fixed size: no list and no sheet makes it take more than 512 KiB.
  */
 #ifndef DOVRANIS_H
 #define DOVRANIS_H
@@ -334,6 +344,43 @@ uint32_t dovranis_canonicalize(const uint32_t *list, size_t list_count, uint32_t
 uint32_t dovranis_levels(const uint32_t *list, size_t list_count, const uint32_t *sorts,
                          size_t sort_count, float *levels, size_t level_count, size_t *floats,
                          size_t *place);
+
+/* Holds a sheet, such as one from another drawing tool, against its list: it is accepted, or the call says why it is
+ * sent back. Nothing is drawn, and neither row is written.
+ *
+ *   result  0 for a sheet that is accepted, else the number of the check that refuses, 1 to 6, 8 to 10, 19 or 20
+ *   place   of a refusal: the place that goes with the number; else as it was
+ *
+ * 19 goes by position. Word 0 is of kind 4, with the width and the height of the head. Words 1 to n are of kind 5, the
+ * parts by number. Then comes each cable by line: a word of kind 6 with that line and a count of corners, and as many
+ * words of kind 7. Bits 27 to 24 are zero in kinds 4, 5 and 7. No x is above the width and no y above the height, which
+ * may be larger than any of them. Reading stops behind the corners of the last cable: whatever stands there, lengths, a
+ * bill or other words, changes no answer, and nothing need stand there (`rest-unread` and `cut-unread` in
+ * crates/validation/proofs/Unread.antt). The place of a word that is missing is the index where it would stand, which
+ * is sheet_count.
+ *
+ * 20 is about the lines that these words show, as said under WHAT HOLDS OF EVERY SHEET. A cable is right by itself if,
+ * with its corners read from one of its two parts to the other, either way, it is level and upright runs in turn, each
+ * of nonzero length, and does not touch itself or a part that it doesn't join, and its own parts only with its ends.
+ * Two cables meet rightly if they have at most one crossing, and any other spot that they share is that of a part that
+ * both join. The place is the lowest line that is not right by itself; where all are, the lowest of any pair that does
+ * not meet rightly. What is said there of sizes, counts of corners and lengths is not asked for. Spots are whole
+ * numbers: two cables on the same straight run between parts one step apart share only the spots of their parts, and
+ * are accepted; where the parts are two steps apart they also share the spot between them, and get 20.
+ *
+ * With a list that passes checks 1 to 10, a sheet is accepted exactly if its words follow the layout, no point is
+ * beyond the head, and all cables are right by themselves and meet rightly (`Accepted` in
+ * crates/validation/specs/Outcome.antt; `Validates` has both directions). Every sheet that the calls above draw is
+ * accepted with its list, in every spacing, with a bill or without one (`drawn-passed` in
+ * crates/acceptance/proofs/Passing.antt), and so are its words up to the last cable's corners.
+ *
+ * A cable may have 4,095 corners, so that a sheet may have millions of words. The call goes through the rows of the
+ * head one after the other. Beyond checks 1 to 10, and clearing tables of 192 KiB, it takes steps in proportion to
+ * (width + height + 2) * (words of the sheet) at most, whatever the sheet; this is not proved. The result, and what is
+ * stored, depends on the words of the list and on those of the sheet up to the last cable's corners alone.
+ */
+uint32_t dovranis_check_sheet(const uint32_t *list, size_t list_count, const uint32_t *sheet,
+                              size_t sheet_count, size_t *place);
 
 #ifdef __cplusplus
 }

@@ -8,13 +8,16 @@
                                                             named ones, and of LARGE lists of 512 parts and 1,024 cables (default 300, 1, 2)
   compare_definitions.py --levels [COUNT [SEED [LARGE]]]    levels of COUNT lists of 3 to 8 parts, a third of them with faults in the second row, of
                                                             the short named ones, and of LARGE lists of 11 to 13 parts (default 300, 1, 4)
+  compare_definitions.py --sheets [COUNT [SEED]]            COUNT sheets of every kind on small heads, and those worked
+                                                            by hand (default 300, 1)
 
 Of the lists that are drawn some third has repeated cables, and some fifth a cut part; a fifteenth of all is made to be refused by
 check 10. Every list is stated with a length of output, a third of them with a discount and half of them with a spacing, as an
 equation of `outcome`, the definition at the top, with all words, counts, numbers and places that reference.py gives, and proved by
 computation in a copy of the crates. An operation of the editor is stated as an equation of `proposed`, or of `effect` with the row
 that it leaves; a list and a length of output for its canonical form as one of `canonicalOutcome`; a list, a second row and a length
-of output as one of `levelsOutcome`, with the bit patterns of the floats. It is no part of the gate."""
+of output as one of `levelsOutcome`, with the bit patterns of the floats; a list and a sheet as one of `sheetVerdict`.
+It is no part of the gate."""
 import os
 import random
 import re
@@ -25,6 +28,7 @@ import tempfile
 
 import lists
 import reference
+import sheets
 
 HERE = os.path.dirname(os.path.abspath(__file__))
 ROOT = os.path.dirname(HERE)
@@ -316,6 +320,52 @@ def levels(a):
     return told(wrong, output, lambda k: '%s with %s' % tuple(' '.join('%08x' % w for w in row) for row in cases[k]))
 
 
+# Sheet validation: equations of `sheetVerdict`.
+
+MOST_SIDE, MOST_WORDS = 24, 60      # of the sheets that are computed
+LARGE_KINDS = 'up to 4,095', 'larger head'      # of which none or few are so small
+
+
+def is_small(words, sheet):
+    n = words[0] >> 16 & 0xfff if words else 0
+    return n <= 8 and len(sheet) <= MOST_WORDS and (not sheet or max(reference.two(sheet[0])) <= MOST_SIDE)
+
+
+def small_sheet(rng, kind=None):
+    """A random sheet on a small head, of this kind or of any: (kind, list, sheet)."""
+    while True:
+        name, words, sheet, _ = sheets.foreign(rng, None, True, kind)
+        if is_small(words, sheet):
+            return name, words, sheet
+
+
+def verdicts(a):
+    count, seed = (int(a[k]) if len(a) > k else default for k, default in enumerate((300, 1)))
+    rng = random.Random(seed)
+    cases = [('by hand', reference.hexes(words), reference.hexes(sheet)) for _, words, sheet, _ in reference.SHEETS]
+    cases = [case for case in cases if is_small(*case[1:])]
+    kinds = [kind for kind in sheets.KINDS if kind not in LARGE_KINDS]
+    cases += [small_sheet(rng, kinds[k // 3 % len(kinds)] if k % 3 == 0 else None) for k in range(count)]
+    with open(os.path.join(ROOT, 'crates/validation/proofs/Table.antt'), encoding='utf-8') as f:
+        table = f.read()
+    # of the laws only what opens the definitions is in the copy, and none of the table's own sheets
+    rows = re.findall(r'^use .*$', table, re.M)
+    uses = [row for row in rows if 'validation·proofs' not in row or '.Computing.' in row]
+    opened = re.findall(r'\S+-computing', re.search(r'^unfolding (.*)$', table, re.M).group(1))
+    text, answers = ['-- Random sheets.'] + uses, []
+    for k, (kind, words, sheet) in enumerate(cases):
+        answer = reference.check_sheet(words, sheet)
+        answers.append((kind, answer))
+        right = 'Refused %d %d' % answer if answer else 'Passed'
+        text += ['', 'case-%d : sheetVerdict %s %s ≡ %s' % (k, numbers(words), numbers(sheet), right),
+                 'unfolding ' + ' '.join(opened), 'case-%d = refl' % k]
+    wrong, output = checked('validation', text, lambda code: code, [])
+    print('\n'.join(sheets.table(answers)))
+    return told(wrong, output, lambda k: '%s: list %s, sheet %s' % (
+        cases[k][0], *(' '.join('%08x' % w for w in row) for row in cases[k][1:])))
+
+
 if __name__ == '__main__':
-    option = {'--editor': editor, '--canonical': canonical, '--levels': levels}.get(sys.argv[1] if len(sys.argv) > 1 else '')
-    sys.exit(option(sys.argv[2:]) if option else main(sys.argv[1:]))
+    modes = {'--editor': editor, '--canonical': canonical, '--levels': levels, '--sheets': verdicts}
+    chosen = modes.get(sys.argv[1] if len(sys.argv) > 1 else '')
+    sys.exit(chosen(sys.argv[2:]) if chosen else main(sys.argv[1:]))

@@ -3,7 +3,7 @@
 
   door.py       proves and builds the archive, compiles the header as C99 and as C++, compares its constants with the library's, and draws one sheet,
                 without a discount and with one, on the grid and in a spacing; then makes its list by proposals and commits, writes
-                the list's canonical form, and gives levels
+                the list's canonical form, gives levels, and validates sheets
 
   import door; lib = door.load(door.build())
   lib.draw(list_words, output_words) -> (result, words, crossings, place, output after)
@@ -14,6 +14,7 @@
   lib.commit(row_words, proposal) -> (result, place, row after); a proposal is one, other and a version
   lib.canonicalize(list_words, output_words) -> (result, words, place, output after)
   lib.levels(list_words, sort_words, output_bits) -> (result, floats, place, output after); floats are bit patterns
+  lib.check_sheet(list_words, sheet_words) -> (result, place)
 
 It is no part of the gate."""
 import array
@@ -33,6 +34,7 @@ HEADER = '#include "dovranis.h"\n'
 POINTER, SIZE, NUMBER = ctypes.c_void_p, ctypes.c_size_t, ctypes.c_uint32
 GUARD = 0x5a5a5a5a      # around a row
 STACK = 128 * 1024      # bytes that the header asks for
+SHEET_STACK = 256 * 1024        # the same for the call that validates a sheet
 WARNED = ['-Wall', '-Wextra', '-Wpedantic', '-Werror']
 COMPILERS = (['cc', '-std=c99', '-x', 'c'], ['g++', '-std=c++98', '-x', 'c++'], ['g++', '-std=c++17', '-x', 'c++'])
 
@@ -85,6 +87,7 @@ class Door:
         self.committed = function('_commit', NUMBER, POINTER, SIZE, Proposal, POINTER)
         self.canonical = function('_canonicalize', NUMBER, POINTER, SIZE, POINTER, SIZE, POINTER, POINTER)
         self.leveled = function('_levels', NUMBER, POINTER, SIZE, POINTER, SIZE, POINTER, SIZE, POINTER, POINTER)
+        self.checked = function('_check_sheet', NUMBER, POINTER, SIZE, POINTER, SIZE, POINTER)
         if name == 'dovranis':
             self.most_words = function('_most_words', SIZE)
             self.most_quoted_words = function('_most_quoted_words', SIZE)
@@ -121,6 +124,15 @@ class Door:
         given = [k for row in rows for k in (row.buffer_info()[0], len(row))]
         result = self.leveled(*given, *map(ctypes.addressof, numbers))
         return result, *(k.value for k in numbers), list(rows[2])
+
+    def check_sheet(self, list_words, sheet_words, lent=0):
+        """The call on copies of these rows, with a place lent that holds this value; no word of either may change."""
+        rows, place = [array.array('I', row) for row in (list_words, sheet_words)], SIZE(lent)
+        given = [k for row in rows for k in (row.buffer_info()[0], len(row))]
+        result = self.checked(*given, ctypes.addressof(place))
+        if [list(row) for row in rows] != [list(list_words), list(sheet_words)]:
+            sys.exit('a word of the list or of the sheet was written')
+        return result, place.value
 
     def edited(self, call, row_words, more, numbers):
         """The result of a call on a copy of this row, and the row after; no word beside it may change."""
@@ -161,9 +173,9 @@ def agree(lib):
     return said == has
 
 
-def on_small_stack(work):
+def on_small_stack(work, size=STACK):
     """Runs this work on the stack that the header asks for, part of which ctypes takes."""
-    before = threading.stack_size(STACK)
+    before = threading.stack_size(size)
     thread = threading.Thread(target=work)
     thread.start()
     thread.join()
@@ -202,6 +214,13 @@ def main():
     print('levels: result %d, floats %d, place %d' % tuple(numbers))
     print(' '.join('%08x' % bits for bits in output))
     print(' '.join('%g' % k for k in struct.unpack('<6f', struct.pack('<6I', *output[:6]))))
+    # its own sheet, without the last corner, and with cable 2 straight across part 1
+    sheet = lib.draw(triangle, row)[-1]
+    for what, words, due in (('its sheet', sheet, (0, 77)), ('without a corner', sheet[:8], (19, 8)),
+                             ('across a part', sheet[:6] + [0x60002000], (20, 2))):
+        answer = lib.check_sheet(triangle, words, 77)
+        print('%s: result %d, place %d' % (what, *answer))
+        good &= answer == due
     return not (good and agree(lib))
 
 

@@ -10,6 +10,10 @@
   measure.py --canonical [WORD..]  as a table: instructions of `dovranis_canonicalize` and of its like in baseline.c
   measure.py --levels [WORD..]     as a table: instructions of `dovranis_levels` and of its like in baseline.c, and of these what checks 1 to 10 and
                                    the order do not take
+  measure.py --sheets [WORD..]     as a table: instructions and time of `dovranis_check_sheet` and of its like in baseline.c, on our own sheets, on the
+                                   grid and spaced by 8, and on refused ones; of the instructions also what checks 1 to 10 do not take
+  measure.py --long-sheets [WORD..]
+                                   as a table: seconds of the same on sheets of two million words, one call each
   measure.py --functions [WORD..]  where the instructions go, on stations of 512 parts
   measure.py --passes [WORD..]     instructions on stations of 512 parts, with baseline.c in its simpler form too: a depth-first pass at
                                    each rank
@@ -19,8 +23,9 @@
   --parts N                        with --functions or --passes: stations of N parts
   --archive FILE                   takes this archive, and neither proves nor builds one; it may be without `dovranis_draw_quoted`, but for --quoted, without
                                    `dovranis_draw_spaced` and `dovranis_draw_quoted_spaced`, but for --spaced, without `dovranis_propose` and
-                                   `dovranis_commit`, but for --editor, without `dovranis_canonicalize`, but for --canonical, and without
-                                   `dovranis_levels`, but for --levels; for --stack it has all of them
+                                   `dovranis_commit`, but for --editor, without `dovranis_canonicalize`, but for --canonical, without
+                                   `dovranis_levels`, but for --levels, and without `dovranis_check_sheet`, but for --sheets and --long-sheets; for
+                                   --stack it has all of them
 
 It needs cc, nm, objdump and valgrind. Instructions are callgrind's, of one call and all that it calls. Time is the best of many rounds, a round being
 as many calls as take 20 microseconds; the two have four rounds each in turn. Both answers are compared. It is no part of the gate."""
@@ -35,12 +40,14 @@ import tempfile
 import door
 import lists
 import reference
+import sheets
 
 HERE = os.path.dirname(os.path.abspath(__file__))
 PROGRAM = os.path.join(door.TOP, 'target', 'bin', 'sheet')
 ROOM = 8192                     # words of output, more than any sheet has
 DISCOUNT = 1250
 SPACING = 7, 6, 20              # column pitch, row pitch, margin: every station here fits
+MOST_PITCH = 8                  # of both, for a sheet to check
 SWEEPS, SECONDS = 10, 0.1       # over all lists, so that a busy minute of the machine spoils no list's best; for one list in a sweep, both calls together
 
 DRIVER = r'''
@@ -236,6 +243,72 @@ int main(int argc, char **argv) {
 }
 '''
 
+SHEET_DRIVER = r'''
+#include <stdio.h>
+#include <stdlib.h>
+#include <string.h>
+#include <time.h>
+#include "dovranis.h"
+
+typedef uint32_t check(const uint32_t *, size_t, const uint32_t *, size_t, size_t *);
+check baseline_check_sheet;
+
+struct answer { uint32_t result; size_t place; };
+
+static uint32_t *words, sheet[8192];
+static size_t count, sheet_count;
+
+static struct answer ask(check *call) {
+    struct answer a = {0, 0};
+    a.result = call(words, count, words + count, sheet_count, &a.place);
+    return a;
+}
+
+static double now(void) {
+    struct timespec t;
+    clock_gettime(CLOCK_MONOTONIC, &t);
+    return t.tv_sec + 1e-9 * t.tv_nsec;
+}
+
+/* The best of the calls that take so many seconds together, or of one call. */
+static double seconds(check *call, double together, struct answer *a) {
+    double best = 1e9, from = now(), before = from, after;
+    do {
+        *a = ask(call);
+        after = now();
+        if (after - before < best) best = after - before;
+        before = after;
+    } while (after - from < together);
+    return best;
+}
+
+/* FILE COUNT ours|baseline|SECONDS, or FILE COUNT draw PITCH; FILE has the COUNT words of a list and behind them a sheet. */
+int main(int argc, char **argv) {
+    if (argc != 4 && argc != 5) return 2;
+    FILE *f = fopen(argv[1], "rb");
+    fseek(f, 0, SEEK_END);
+    size_t all = ftell(f) / 4;
+    rewind(f);
+    words = malloc(4 * all + 4);
+    if (fread(words, 4, all, f) != all) return 2;
+    count = atol(argv[2]);
+    sheet_count = all - count;
+    if (!strcmp(argv[3], "ours")) { ask(dovranis_check_sheet); return 0; }
+    if (!strcmp(argv[3], "baseline")) { ask(baseline_check_sheet); return 0; }
+    if (!strcmp(argv[3], "draw")) {
+        size_t due = 0, crossings, place;
+        uint32_t pitch = atol(argv[4]);
+        if (dovranis_draw_spaced(words, count, sheet, 8192, pitch, pitch, 0, &due, &crossings, &place)) return 1;
+        for (size_t i = 0; i < due; i++) printf("%u ", sheet[i]);
+        return 0;
+    }
+    struct answer a, b;
+    double ours = seconds(dovranis_check_sheet, atof(argv[3]), &a), theirs = seconds(baseline_check_sheet, atof(argv[3]), &b);
+    printf("%d %u %zu %.4g %.4g\n", a.result == b.result && a.place == b.place, a.result, a.place, ours, theirs);
+    return 0;
+}
+'''
+
 # Each call is made twice on a stack of its own, painted with one pattern and then with another; what it takes is told by the lowest byte
 # that is no longer as painted.
 STACK_DRIVER = r'''
@@ -260,6 +333,7 @@ propose baseline_propose;
 commit baseline_commit;
 uint32_t baseline_canonicalize(const uint32_t *, size_t, uint32_t *, size_t, size_t *, size_t *);
 uint32_t baseline_levels(const uint32_t *, size_t, const uint32_t *, size_t, float *, size_t, size_t *, size_t *);
+uint32_t baseline_check_sheet(const uint32_t *, size_t, const uint32_t *, size_t, size_t *);
 
 enum { STACK = 1 << 20, MOST = 1 << 17, ROOM = 8192 };
 
@@ -286,8 +360,9 @@ static __attribute__((noinline)) void ask(void) {
     case 5: result = OF(commit)(list, k[1], p, &place); break;
     case 6: result = OF(canonicalize)(list, k[1], sheet, ROOM, &words, &place); break;
     case 7: result = OF(levels)(list, k[1] - k[2], list + k[1] - k[2], k[2], levels, k[3], &words, &place); break;  /* the last k[2] words are sorts */
-    case 8: if (!theirs) sum += dovranis_most_words(); break;
-    case 9: if (!theirs) sum += dovranis_most_quoted_words(); break;
+    case 8: result = OF(check_sheet)(list, k[1] - k[2], list + k[1] - k[2], k[2], &place); break;   /* the last k[2] words are a sheet */
+    case 9: if (!theirs) sum += dovranis_most_words(); break;
+    case 10: if (!theirs) sum += dovranis_most_quoted_words(); break;
     }
 }
 
@@ -314,7 +389,7 @@ int main(int argc, char **argv) {
     while (fread(k, 4, 6, f) == 6 && fread(row, 4, k[1], f) == k[1]) {
         for (theirs = 0; theirs < 2; theirs++) {
             long one = taken(0x5a), other = taken(0xa5);
-            printf("%ld %u ", one > other ? one : other, k[0] < 8 ? result : 0);
+            printf("%ld %u ", one > other ? one : other, k[0] < 9 ? result : 0);
         }
         puts("");
     }
@@ -674,15 +749,131 @@ def levels(driver, asked):
                                                  '%.1f' % (more / count), '{:,}'.format(rest), '%.1f' % (rest / count)])), flush=True)
 
 
+# Sheets that are held against their lists, as (name, list, sheet).
+
+def pitch_of(words):
+    """The widest pitch of up to 8 for which the sheet's numbers fit, without a margin."""
+    n, m, de = lists.counts(words)
+    return min(MOST_PITCH, 4095 // max(m - n + 1, n - 1 + de))
+
+
+def own_sheets(driver):
+    """Our own sheets with their run lengths, on the grid and spaced by 8, or by as much as fits."""
+    for n in (16, 64, 256, 512):
+        for kind, make in (*ARRANGED, ('chain', lists.chain)):
+            name = '%s of %d' % (kind, n)
+            words = numbered(random.Random(name), n, make(n)[1], 'shuffled')
+            yield name + ', on the grid', words, driver.drawn(words, 1)
+            yield '%s, spaced by %d' % (name, pitch_of(words)), words, driver.drawn(words, pitch_of(words))
+
+
+def last_cable(words, sheet):
+    """Where the words of the last cable begin in a sheet."""
+    place = 1 + (words[0] >> 16 & 0xfff)
+    for _ in range(len(words) - 3):
+        place += 1 + (sheet[place] & 0xfff)
+    return place
+
+
+def wrong_sheets(driver):
+    """Refused sheets, with the fault as far behind as it can be: the last word of two million missing; of 1,024 cables the last one with a corner on part 0;
+    of 511 the last two meeting in a corner."""
+    _, words, sheet = stairs()
+    yield 'refused 19', words, sheet[:-1]
+    words = lists.full_list(512)
+    sheet = driver.drawn(words, pitch_of(words))
+    yield 'refused 20, by itself', words, sheet[:last_cable(words, sheet)] + [sheets.line_word(1023, 1), 0x70000000 | sheet[1] & 0xffffff]
+    d = sheets.Drawn(lists.chain_list(512), 16, 8 * 511, [(8, 8 * p) for p in range(512)], [[] for _ in range(511)])
+    d.corners[509], d.corners[510] = [(12, 8 * 509), (12, 8 * 510)], [(16, 8 * 510), (16, 8 * 511)]
+    yield 'refused 20, a pair', d.words, d.sheet()
+
+
+def stairs():
+    """A chain of 512 parts, those of even number on the left and the others on the right, which 511 stairs of 4,095 corners join, of one step each but for
+    the last run."""
+    parts = [(0, 4 * p) if p % 2 == 0 else (2048, 4 * p + 2048) for p in range(512)]
+    corners = []
+    for line in range(511):
+        (x, y), way, its = parts[line], 1 - line % 2 * 2, []
+        for _ in range(2047):
+            its += [(x + way, y), (x + way, y + way)]
+            x, y = its[-1]
+        corners.append(its + [(x + way, y)])
+    d = sheets.Drawn(lists.chain_list(512), 2048, 4 * 511 + 2048, parts, corners)
+    return 'stairs', d.words, d.sheet()
+
+
+def across():
+    """A chain of 512 parts, whose cables all go to and fro over the same half of the largest head, row by row: right by themselves, and refused for the
+    first of them."""
+    d = sheets.filled(512, 511)
+    d.height = 4095
+    return 'refused 20, across', d.words, d.sheet()
+
+
+class SheetDriver(Linked):
+    def __init__(self, folder, archive):
+        if 'dovranis_check_sheet' not in functions_of(archive):
+            sys.exit('the archive has no dovranis_check_sheet')
+        super().__init__(folder, archive, SHEET_DRIVER, [])
+
+    def asked(self, words, sheet, *more):
+        return [self.keep(words + sheet), str(len(words)), *more]
+
+    def drawn(self, words, pitch):
+        """Our own sheet with this pitch of columns and rows."""
+        got = subprocess.run([self.program, *self.asked(words, [], 'draw', str(pitch))], check=True, stdout=subprocess.PIPE, text=True).stdout
+        return list(map(int, got.split()))
+
+    def times(self, name, words, sheet, seconds):
+        """Seconds of ours and of the baseline, whose answers are compared: the best of the calls that take so long together, or of one."""
+        same, result, place, ours, theirs = subprocess.run([self.program, *self.asked(words, sheet, str(seconds))], check=True, stdout=subprocess.PIPE,
+                                                           text=True).stdout.split()
+        if same != '1':
+            sys.exit('%s: the answers differ' % name)
+        if int(result) != (check_of(name) if name.startswith('refused') else 0):
+            sys.exit('%s: the result is %s %s' % (name, result, place))
+        return float(ours), float(theirs)
+
+    def instructions(self, words, sheet):
+        """Of ours and of the baseline."""
+        return [self.traced(call, self.asked(words, sheet, which))[1]
+                for call, which in (('dovranis_check_sheet', 'ours'), ('baseline_check_sheet', 'baseline'))]
+
+
+def milliseconds(t):
+    return microseconds(t / 1000)
+
+
+def check_sheets(driver, asked):
+    """What checks 1 to 10 take, with the order where a call finds it along with them, is told by the list with no sheet, which 19 refuses."""
+    print('| sheet | rows | words | instructions | baseline | ratio | beyond checks 1 to 10 | baseline | ratio | ms | baseline |\n|---|' + '---:|' * 10)
+    for name, words, sheet in chosen([*own_sheets(driver), *wrong_sheets(driver)], asked):
+        a, b = driver.times(name, words, sheet, SECONDS)
+        (i, j), (k, l) = driver.instructions(words, sheet), driver.instructions(words, [])
+        print('| %s | %s |' % (name, ' | '.join(['{:,}'.format((sheet[0] & 0xfff) + 1), '{:,}'.format(len(sheet)), '{:,}'.format(i), '{:,}'.format(j), '%.1f' % (i / j),
+                                                 '{:,}'.format(i - k), '{:,}'.format(j - l), '%.1f' % ((i - k) / (j - l)), milliseconds(a), milliseconds(b)])),
+              flush=True)
+
+
+def long_sheets(driver, asked):
+    print('| sheet | columns | rows | words | seconds | baseline | ratio |\n|---|' + '---:|' * 6)
+    for name, words, sheet in chosen([stairs(), across()], asked):
+        a, b = driver.times(name, words, sheet, 0)
+        print('| %s | %s |' % (name, ' | '.join(['{:,}'.format((sheet[0] >> 12 & 0xfff) + 1), '{:,}'.format((sheet[0] & 0xfff) + 1), '{:,}'.format(len(sheet)),
+                                                 '%.2f' % a, '%.2f' % b, '%.1f' % (a / b)])), flush=True)
+
+
 # The stack.
 
-CALLS = ('draw', 'draw_quoted', 'draw_spaced', 'draw_quoted_spaced', 'propose', 'commit', 'canonicalize', 'levels', 'most_words',
+CALLS = ('draw', 'draw_quoted', 'draw_spaced', 'draw_quoted_spaced', 'propose', 'commit', 'canonicalize', 'levels', 'check_sheet', 'most_words',
          'most_quoted_words')
 
 
 def stack_calls():
     """(name, call, its four numbers, words) on the largest stations, drawn and refused, on the rows of named runs, on the largest
-    lists that have a canonical form by name, and on the largest that have levels by name, with outputs that are too short too."""
+    lists that have a canonical form by name, on the largest that have levels by name, with outputs that are too short too, and on all
+    sheets by name."""
     fits, wide = (DISCOUNT, *SPACING), (DISCOUNT, 64, 64, 255)
     for name, words in lists.boundaries():
         if lists.is_large(words):
@@ -692,6 +883,7 @@ def stack_calls():
             yield name, 6, 4 * (0,), words
             sorts = sorts_of(name, words)
             yield name, 7, (len(sorts), ROOM, 0, 0), words + sorts
+            yield name + ', no sheet', 8, 4 * (0,), words
     for name, row, operations in lists.edits():
         if lists.is_large(row):
             for _, (what, one, other, version) in operations:
@@ -703,7 +895,9 @@ def stack_calls():
         if lists.is_large(words):
             for room in (0, ROOM):
                 yield name, 7, (len(sorts), room, 0, 0), words + sorts
-    for call in (8, 9):
+    for name, words, sheet in sheets.named():
+        yield name, 8, (len(sheet), 0, 0, 0), words + sheet
+    for call in (9, 10):
         yield '', call, 4 * (0,), []
 
 
@@ -720,10 +914,10 @@ def stack(linked):
             sys.exit('%s, %s: the results are %d and %d' % (name, CALLS[call], result, other))
         before = most.get(call, (0, '', 0))
         most[call] = (*max(before[:2], (ours, name)), max(before[2], theirs))
-    print('The header asks for {:,} bytes.\n'.format(door.STACK))
+    print('The header asks for {:,} bytes, and for {:,} where a sheet is checked.\n'.format(door.STACK, door.SHEET_STACK))
     print('| call | bytes | on | baseline |\n|---|---:|---|---:|')
     for call, (ours, name, theirs) in sorted(most.items()):
-        print('| `dovranis_%s` | %s | %s | %s |' % (CALLS[call], '{:,}'.format(ours), name, '{:,}'.format(theirs) if call < 8 else ''))
+        print('| `dovranis_%s` | %s | %s | %s |' % (CALLS[call], '{:,}'.format(ours), name, '{:,}'.format(theirs) if call < 9 else ''))
 
 
 # Where the instructions go. The archive has two large functions with most others inside: checks with the order, and the drawing. So each of their
@@ -903,6 +1097,10 @@ def main(args):
             return canonical(CanonicalDriver(os.path.join(folder, 'canonical'), archive), asked)
         if '--levels' in args:
             return levels(LevelsDriver(os.path.join(folder, 'levels'), archive), asked)
+        if '--sheets' in args:
+            return check_sheets(SheetDriver(os.path.join(folder, 'sheets'), archive), asked)
+        if '--long-sheets' in args:
+            return long_sheets(SheetDriver(os.path.join(folder, 'sheets'), archive), asked)
         if '--stack' in args:
             return stack(Linked(os.path.join(folder, 'stack'), archive, STACK_DRIVER, []))
         driver = Driver(os.path.join(folder, 'plain'), archive)

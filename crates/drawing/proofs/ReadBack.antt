@@ -57,7 +57,7 @@ spots-back word b (s ∷ l) f =
 
 -- Routes
 
-route-path : (r q : Route) → r .first ≡ q .first → r .last ≡ q .last → r .corners ≡ q .corners → r ≡ q
+pub route-path : (r q : Route) → r .first ≡ q .first → r .last ≡ q .last → r .corners ≡ q .corners → r ≡ q
 route-path r q e f g = λ i. record { first = e i; last = f i; corners = g i }
 
 -- the words of a cable's corners, and those behind them, where the count is k
@@ -116,7 +116,7 @@ drawing-path : (d q : Drawing) → d .width ≡ q .width → d .height ≡ q .he
 drawing-path d q e f g h = λ i. record { width = e i; height = f i; parts = g i; routes = h i }
 
 -- the head, the words of the parts and of the cables, and all behind them
-sheet-front :
+pub sheet-front :
     (d : Drawing) (rest : List ℕ)
     → drawingWords d ++ rest ≡ sheetHeadWord (d .width) (d .height) ∷ map partSpotWord (d .parts) ++ (routesWords 0 (d .routes) ++ rest)
 unfolding drawingWords headSection partsSection cablesSection

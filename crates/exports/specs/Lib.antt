@@ -4,3 +4,4 @@ pub mod Editing
 pub mod Counts
 pub mod CanonicalForm
 pub mod SignalLevels
+pub mod SheetCheck

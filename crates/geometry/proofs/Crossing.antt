@@ -16,7 +16,7 @@ use Rattle.geometry.specs.Lines.{point, IsRun, OnRun, OnLevel, OnUpright
 use Rattle.geometry.specs.Crossing.{between, meetingSpot, runsCross, crossesOver, linesCross}
 use Rattle.geometry.proofs.Spots.{spot-path, same-spot, same-spot-e}
 
-between-e : (p q s : Spot) → between p q s ≡ true → Between p q s
+pub between-e : (p q s : Spot) → between p q s ≡ true → Between p q s
 unfolding between
 between-e p q s h =
     let a = leb (min (p .x) (q .x)) (s .x) in
@@ -28,7 +28,7 @@ between-e p q s h =
     let u = and-e a b (t .0) in
     record { left = leb-true _ _ (u .0); right = leb-true _ _ (u .1); below = leb-true _ _ (t .1); above = leb-true _ _ (r .1) }
 
-between-i : (p q s : Spot) → Between p q s → between p q s ≡ true
+pub between-i : (p q s : Spot) → Between p q s → between p q s ≡ true
 unfolding between
 between-i p q s h =
     and-i _ _ (and-i _ _ (and-i _ _ (le-leb _ _ (h .left)) (le-leb _ _ (h .right))) (le-leb _ _ (h .below))) (le-leb _ _ (h .above))

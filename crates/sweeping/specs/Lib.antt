@@ -1,0 +1,2 @@
+-- What the code of the sweep keeps and reads (Code). Assumes nothing.
+pub mod Code
