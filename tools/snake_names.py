@@ -20,10 +20,10 @@ SPOKEN = re.compile(r"[A-Za-z0-9_'₀-₉-]*[A-Za-z0-9_'₀-₉]")
 SPAN = re.compile(r"`[^`\n]+`")
 FILE = re.compile(r"examples/|\.(?:txt|sheet|svg|py|c|h)\b")
 HEAD = re.compile(r"^(?:(?:pub|abbrev|unfoldable|inline|data|record|ruleset|private|irreducible) )*([^\s(){}.;,@\"]+)(?: :|$| \()")
-FIELD = re.compile(r"^\s+(?:pub )?([^\s(){}.;,@\"]+) :")
+FIELD = re.compile(r"^\s+(?:(?:pub|abbrev|unfoldable|inline|data|record) )*([^\s(){}.;,@\"]+) :")
 USE = re.compile(r"\buse ([^;{\n]+)\.\{([^}]*)\}", re.S)
 # lemmas that stand in snake case already and whose definition takes that name
-LEMMAS = {n: n + "_lem" for n in ("same_parts", "same_spot", "sent_back", "too_large")}
+LEMMAS = {n: n + "_lem" for n in ("in_place", "same_parts", "same_spot", "sent_back", "too_large")}
 KEYWORDS = {"let", "in", "where", "use", "mod", "pub", "abbrev", "unfoldable", "data", "record", "do", "rw", "simp", "omega", "grind", "search", "elim", "infixl", "infixr", "infix", "ruleset", "unfolding"}
 
 
