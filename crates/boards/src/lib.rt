@@ -1,5 +1,7 @@
 // The two tables by column of a sweep over the rows of a sheet (request 2026-09). A cell has the row that it was written in and a number;
 // what was written in an earlier row counts for nothing.
+#![tactic(auto)]
+
 ghost use Rattle.std.specs.Prelude.{◌≡◌, false, cond, ◌+◌, ◌^◌, ◌<◌, min, length};
 ghost use Rattle.sweep.specs.Visits.{visit_at};
 ghost use Rattle.sweep.specs.Boards as tables;

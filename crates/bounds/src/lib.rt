@@ -1,11 +1,13 @@
 // The box around a cable's points (request 2026-10), in the field's terms its bounding box: it is lent, and grows by one point at a time.
+#![tactic(auto)]
+
 ghost use Rattle.std.specs.Prelude.{◌≡◌, min, max};
 ghost use Rattle.bounds.specs.Boxes.{alone, grown};
 ghost use Rattle.geometry.specs.Spots.{spot_at};
 
 // A box of four numbers: its least and its greatest x and y.
 #[repr(C)]
-#[derive(Drop)]
+#[derive(Clone, Copy)]
 pub struct Bounds {
     pub left: u16,
     pub bottom: u16,

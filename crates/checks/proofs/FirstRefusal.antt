@@ -73,6 +73,7 @@ module _ (list : List ℕ) where
 
   pub clear_each : (cs : List Check) {c : Check} → Clear cs list → Memᴰ c cs → c.finds list ≡ Nothing
   unfolding first_refusal
+  clear_each [] {c = c} h m = elim m [ ]
   clear_each (d ∷ cs) h (Memᴰ.head e) = rw e (or_else_passed d.number (d.finds list) (first_refusal cs list) h).0
   clear_each (d ∷ cs) h (Memᴰ.tail m) = clear_each cs (or_else_passed d.number (d.finds list) (first_refusal cs list) h).1 m
 

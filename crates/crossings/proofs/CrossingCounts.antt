@@ -8,7 +8,16 @@ use lib.ListN.{length, drop, length-drop, drop_of_length-le}
 use lib.Seq.{drop-cons}
 use Rattle.lists.specs.Select.{count, one_if}
 use Rattle.lists.proofs.Sums.{count_length}
+use Rattle.placement.specs.declared.Layout.{Layout}
+use Rattle.placement.specs.Arrays.{layout_in}
 use Rattle.drawing.specs.Drawing.{Route, no_route, Drawing, route_at, cross_pair, crossings_of, crossings}
+
+-- whether a cable crosses that of line i of a layout, and how many do from line j on
+abbrev pub test : Layout → ℕ → Route → Bool
+test l i = cross_pair (layout_in l) (route_at (layout_in l) i)
+
+abbrev pub from : Layout → ℕ → ℕ → ℕ
+from l i j = count (test l i) (drop j (layout_in l).routes)
 
 module _ (d : Drawing) where
   -- those that pass a test

@@ -1,4 +1,6 @@
 // The crossings of a layout, counted. 2026-02: they are 'all pairs of cables whose lines cross, those that share a part too'.
+#![tactic(auto)]
+
 ghost use Rattle.std.specs.Prelude.{◌≡◌, ◌&&◌, ◌+◌, ◌<◌, min, max, drop, ltb};
 ghost use Rattle.lists.specs.Select.{count};
 ghost use Rattle.drawing.specs.Drawing.{route_at, cross_pair, crossings};

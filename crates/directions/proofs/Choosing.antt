@@ -87,7 +87,7 @@ module _ {list sheet : List ℕ} {line from to : ℕ} (C : CornersAt list sheet 
       let here : AtCable list sheet (cable_place st.parts sheet line) line = record { layout = C.layout; place = refl } in
       omega (arith, C.starts, C.ends, cable_inside here C.is_line)
 
-  corners_read : map word_spot (take (to - from) (drop from sheet)) ≡ (route_at d line).corners
+  pub corners_read : map word_spot (take (to - from) (drop from sheet)) ≡ (route_at d line).corners
   unfolding shown
   corners_read =
       let n = st.parts in
@@ -99,9 +99,9 @@ module _ {list sheet : List ℕ} {line from to : ℕ} (C : CornersAt list sheet 
   part_inside : (p : ℕ) → p < st.parts → 1 + p < length sheet
   part_inside p l = omega (arith, words_enough st.parts (length st.cables) sheet C.layout)
 
-  part_spot : (p : ℕ) → p < st.parts → word_spot (get_or sheet (1 + p) 0) ≡ spot_of d p
+  part_spot_lem : (p : ℕ) → p < st.parts → word_spot (get_or sheet (1 + p) 0) ≡ spot_of d p
   unfolding shown
-  part_spot p l = sym (part_read st.parts (map (directed true) st.cables) sheet p l)
+  part_spot_lem p l = sym (part_read st.parts (map (directed true) st.cables) sheet p l)
 
   ends_are : (forward : Bool) → ((ends_at st forward line).first < st.parts) × ((ends_at st forward line).last < st.parts)
   ends_are forward = ends_below st (list_wired list C.passed) forward line
@@ -123,11 +123,11 @@ module _ {list sheet : List ℕ} {line from to : ℕ} (C : CornersAt list sheet 
     module _ {p q : Spot} (f : p ≡ word_spot (get_or sheet (1 + s.one) 0)) (g : q ≡ word_spot (get_or sheet (1 + s.other) 0)) where
       first_read : p ≡ spot_of d (ends_at st forward line).first
       first_read =
-          f ∙ ap (λ (k : ℕ). word_spot (get_or sheet (1 + k) 0)) first_is ∙ part_spot (ends_at st forward line).first (ends_are forward).0
+          f ∙ ap (λ (k : ℕ). word_spot (get_or sheet (1 + k) 0)) first_is ∙ part_spot_lem (ends_at st forward line).first (ends_are forward).0
 
       last_read : q ≡ spot_of d (ends_at st forward line).last
       last_read =
-          g ∙ ap (λ (k : ℕ). word_spot (get_or sheet (1 + k) 0)) last_is ∙ part_spot (ends_at st forward line).last (ends_are forward).1
+          g ∙ ap (λ (k : ℕ). word_spot (get_or sheet (1 + k) 0)) last_is ∙ part_spot_lem (ends_at st forward line).last (ends_are forward).1
 
       -- the line over the spots that the code reads is the cable's
       pub line_read :
@@ -135,6 +135,12 @@ module _ {list sheet : List ℕ} {line from to : ℕ} (C : CornersAt list sheet 
           ≡ points_read (station_of list) (shown (station_of list) sheet) forward line
       unfolding points_read route_points
       line_read = rw (first_read, last_read, corners_read)
+
+      -- what the code finds of the spots that it reads is so of the cable
+      pub alternates_read :
+          (r : Bool) → r ≡ alternates (line_over p (map word_spot (take (to - from) (drop from sheet))) q)
+          → r ≡ alternates (points_read st d forward line)
+      alternates_read r h = h ∙ ap alternates line_read
 
   pub faces_read :
       {s : tables.Strand} → s ≡ strand_for list line true → {p q : Spot} → p ≡ word_spot (get_or sheet (1 + s.one) 0)

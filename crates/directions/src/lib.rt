@@ -1,4 +1,6 @@
 // The direction in which each cable's corners are read (request 2026-09), as far as they alternate in it.
+#![tactic(auto)]
+
 use crate::facing::{alternates, faces_forward};
 use crate::strands::{spot_in, strand_of};
 use listing::fields::{cable_count, part_count};

@@ -9,7 +9,7 @@ use listing::fields::{one_part, other_part};
 use words::Word;
 
 // A cable's line, and its two parts.
-#[derive(Drop)]
+#[derive(Clone, Copy)]
 pub struct Strand {
     pub line: u16,
     pub one: u16,

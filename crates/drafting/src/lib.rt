@@ -1,4 +1,6 @@
 // The call that draws a hookup sheet.
+#![tactic(auto)]
+
 ghost use Rattle.checks.specs.Checks.{Clear};
 ghost use Rattle.station.specs.Station.{station_of};
 ghost use Rattle.ranking.specs.Ranking.{RankingOf};

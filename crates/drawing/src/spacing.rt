@@ -10,7 +10,7 @@ use geometry::Spot;
 use lists::Found;
 
 // What a caller may give: 'a column pitch, a row pitch and a margin'.
-#[derive(Drop)]
+#[derive(Clone, Copy)]
 pub struct Spacing {
     pub column_pitch: u32,
     pub row_pitch: u32,

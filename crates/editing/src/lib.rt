@@ -1,5 +1,7 @@
 // The station editor's operations on a list that grows in a lent row, one cable at a time (request 2026-07): a cable is proposed, and the
 // proposal committed, in the terms of optimistic concurrency control.
+#![tactic(auto)]
+
 use checks::Verdict;
 use editor::{Proposal, Proposed};
 use list::{cables_present, check_row};

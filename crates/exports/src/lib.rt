@@ -1,4 +1,6 @@
 // The calls for programs that are not written in Rattle. include/dovranis.h says in words what the contracts here say.
+#![tactic(auto)]
+
 use drafting::draw;
 use drawing::spacing::Spacing;
 use hookup::{Answer, Options};

@@ -17,31 +17,31 @@ use Rattle.hookup.specs.Checks.{option_checks, given_checks, drawing_checks, cal
 -- Checks 12 and 13, 'tested before the list'
 
 module _ (options : Options) (list : List ℕ) where
-  abbrev check-12 : Check
-  check-12 = record { number = 12; finds = λ l. check12 options.discount }
+  abbrev check_12 : Check
+  check_12 = record { number = 12; finds = λ l. check12 options.discount }
 
-  abbrev check-13 : Check
-  check-13 = record { number = 13; finds = λ l. check13 options.spacing }
+  abbrev check_13 : Check
+  check_13 = record { number = 13; finds = λ l. check13 options.spacing }
 
-  abbrev check-14 : Check
-  check-14 = record { number = 14; finds = λ l. check14 (spaced options.spacing (drawing (station_of l))) }
+  abbrev check_14 : Check
+  check_14 = record { number = 14; finds = λ l. check14 (spaced options.spacing (drawing (station_of l))) }
 
   pub refused_12 : (p : ℕ) → check12 options.discount ≡ At p → first_refusal (given_checks options) list ≡ verdict.Refused 12 p
   unfolding given_checks option_checks
-  refused_12 p e = first_found list [] check-12 (check-13 ∷ all_checks) p (no_check list) e
+  refused_12 p e = first_found list [] check_12 (check_13 ∷ all_checks) p (no_check list) e
 
   module _ (none : check12 options.discount ≡ Nothing) where
-    twelve : Clear (check-12 ∷ []) list
-    twelve = clear_more list [] check-12 (no_check list) none
+    twelve : Clear (check_12 ∷ []) list
+    twelve = clear_more list [] check_12 (no_check list) none
 
     pub refused_13 : (p : ℕ) → check13 options.spacing ≡ At p → first_refusal (given_checks options) list ≡ verdict.Refused 13 p
     unfolding given_checks option_checks
-    refused_13 p e = first_found list (check-12 ∷ []) check-13 all_checks p twelve e
+    refused_13 p e = first_found list (check_12 ∷ []) check_13 all_checks p twelve e
 
     module _ (good : check13 options.spacing ≡ Nothing) where
       options_clear : Clear (option_checks options) list
       unfolding option_checks
-      options_clear = clear_more list (check-12 ∷ []) check-13 twelve good
+      options_clear = clear_more list (check_12 ∷ []) check_13 twelve good
 
       -- then the list decides
       pub list_decides : first_refusal (given_checks options) list ≡ first_refusal all_checks list
@@ -58,11 +58,11 @@ module _ (options : Options) (list : List ℕ) where
     pub refused_14 :
         (p : ℕ) → check14 (spaced options.spacing (drawing (station_of list))) ≡ At p → first_refusal (call_checks options) list ≡ verdict.Refused 14 p
     unfolding call_checks drawing_checks
-    refused_14 p e = first_found list (given_checks options) check-14 [] p pass e
+    refused_14 p e = first_found list (given_checks options) check_14 [] p pass e
 
     pub call_clear : check14 (spaced options.spacing (drawing (station_of list))) ≡ Nothing → Clear (call_checks options) list
     unfolding call_checks drawing_checks
-    call_clear e = clear_more list (given_checks options) check-14 pass e
+    call_clear e = clear_more list (given_checks options) check_14 pass e
 
     -- what was given passes, and so does the list
     pub list_clear : Clear all_checks list
@@ -75,11 +75,11 @@ module _ (options : Options) (list : List ℕ) where
 
     pub discount_clear : check12 options.discount ≡ Nothing
     unfolding option_checks
-    discount_clear = given_clear {c = check-12} (Memᴰ.head refl)
+    discount_clear = given_clear {c = check_12} (Memᴰ.head refl)
 
     pub spacing_clear : check13 options.spacing ≡ Nothing
     unfolding option_checks
-    spacing_clear = given_clear {c = check-13} (Memᴰ.tail (Memᴰ.head refl))
+    spacing_clear = given_clear {c = check_13} (Memᴰ.tail (Memᴰ.head refl))
 
   module _ (pass : Clear (call_checks options) list) where
     pub checked_given : Clear (given_checks options) list
@@ -88,4 +88,4 @@ module _ (options : Options) (list : List ℕ) where
 
     pub drawing_clear : check14 (spaced options.spacing (drawing (station_of list))) ≡ Nothing
     unfolding call_checks drawing_checks
-    drawing_clear = clear_each list (check-14 ∷ []) {c = check-14} (clear_rest list (given_checks options) (drawing_checks options) pass) (Memᴰ.head refl)
+    drawing_clear = clear_each list (check_14 ∷ []) {c = check_14} (clear_rest list (given_checks options) (drawing_checks options) pass) (Memᴰ.head refl)

@@ -49,7 +49,7 @@ use Rattle.checks.specs.Outcome.{sent_back, written}
 use Rattle.order.proofs.AllChecks.{all_clear}
 use Rattle.hookup.proofs.CallChecks.{list_decides, refused_14, call_clear}
 use Rattle.hookup.proofs.Drawn.{grid_sizes, head_alone, all_words}
-use Rattle.hookup.proofs.PartRows.{bottom_rows, top_rows, height_is}
+use Rattle.hookup.proofs.PartRows.{bottom_rows_lem, top_rows_lem, height_is}
 use Rattle.hookup.proofs.Demand3.{sheet_of}
 use Rattle.hookup.proofs.Answers.{refused_outcome, short_outcome, drawn_outcome}
 
@@ -265,8 +265,8 @@ module _ (n m : ℕ) (S : Sized n m) (six : Clear (up_to 6) (laid n m)) where
           arith,
           ap length (plain_words options.spacing (drawing st)),
           all_words st orderable options.spacing,
-          bottom_rows st orderable,
-          top_rows st orderable,
+          bottom_rows_lem st orderable,
+          top_rows_lem st orderable,
           source_cables,
           analyser_cables,
           parts_are,

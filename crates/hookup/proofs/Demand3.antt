@@ -27,7 +27,7 @@ use Rattle.drawing.specs.declared.spacing.Spacing.{Spacing}
 use Rattle.drawing.specs.Reading.{Endpoints, no_endpoints, parts_by_row, lengths_in}
 use Rattle.drawing.specs.Sizes.{Sizes, Exactly, ManyBends, Bends}
 use Rattle.drawing.specs.Measured.{Measured}
-use Rattle.layout.specs.Columns.{bottomLine, topLine}
+use Rattle.layout.specs.Columns.{bottom_line, top_line}
 use Rattle.drawing.proofs.Spaced.{Spreads, passed_13, increases, spaced_one}
 use Rattle.hookup.specs.declared.Options.{Options}
 use Rattle.hookup.specs.Checks.{call_checks}
@@ -36,7 +36,7 @@ use Rattle.hookup.specs.Reading.{ends_by, drawing_of}
 use Rattle.hookup.specs.Demand.{Form, rows_below, rows_above, Demand3, row_of, Ordered, Crossed}
 use Rattle.hookup.proofs.CallChecks.{checked_given, list_clear, spacing_clear, drawing_clear}
 use Rattle.hookup.proofs.Drawn.{ends_of, most_words_for, joins, routes_are, corner_total, all_words, grid_sizes, meets_spaced, crossings_there, reads, sheet_corners, sizes, many_bends, bends, measured, quote, all_fit, quoted_most}
-use Rattle.hookup.proofs.PartRows.{parts_by_row_lem, rank_row, bottom_rows, top_rows, height_is}
+use Rattle.hookup.proofs.PartRows.{parts_by_row_lem, rank_row, bottom_rows_lem, top_rows_lem, height_is}
 
 module _ (st : Station) (H : Orderable st) where
   ends_at : (i : ℕ) → i < length st.cables → get_or (ends_of st) i no_endpoints ≡ ends_by (order st) (get_or st.cables i no_cable)
@@ -71,8 +71,8 @@ module _ (st : Station) (H : Orderable st) where
   exact s P pass discount = record {
     width = (grid_sizes st H).width;
     height = height_is st H;
-    corners = omega (arith, sheet_corners st H s P pass discount, corner_total st H, bottom_rows st H, top_rows st H);
-    words = omega (arith, quoted_length s discount (drawing st), ap (quote_count discount) (routes_are st H), all_words st H s, bottom_rows st H, top_rows st H);
+    corners = omega (arith, sheet_corners st H s P pass discount, corner_total st H, bottom_rows_lem st H, top_rows_lem st H);
+    words = omega (arith, quoted_length s discount (drawing st), ap (quote_count discount) (routes_are st H), all_words st H s, bottom_rows_lem st H, top_rows_lem st H);
   }
 
 -- the words of a list's sheet
@@ -107,7 +107,7 @@ module _ (options : Options) (list : List ℕ) (pass : Clear (call_checks option
             (sizes st orderable s spreads fit options.discount);
         exactly = exact st orderable s spreads fit options.discount;
         many_bends =
-            subst (λ (d : Drawing). ManyBends (length st.cables) (bottomLine (graph_of st)) (topLine (graph_of st)) d) (sym read_off)
+            subst (λ (d : Drawing). ManyBends (length st.cables) (bottom_line (graph_of st)) (top_line (graph_of st)) d) (sym read_off)
             (many_bends st orderable s spreads);
         bends = λ once. subst (λ (d : Drawing). Bends (length st.cables) d) (sym read_off) (bends st orderable s spreads once);
         lengths =
@@ -129,7 +129,7 @@ module _ (options : Options) (list : List ℕ) (pass : Clear (call_checks option
         rows = λ k h.
             ap (λ (l : List ℕ). row_of sheet (get_or l k 0)) e
             ∙ rank_row st orderable s spreads fit options.discount k (omega (arith, (order_ordering st orderable).all))
-            ∙ ap (λ (d : ℕ). row_at s (d + k)) (bottom_rows st orderable);
+            ∙ ap (λ (d : ℕ). row_at s (d + k)) (bottom_rows_lem st orderable);
       }
 
   -- 2026-02: the crossings of the drawing are those that its words show

@@ -43,8 +43,8 @@ use Rattle.drawing.proofs.Fields.{head_decides}
 use Rattle.drawing.proofs.Quoted.{quoted_length, quoted_renumbered, drawing_read, lengths_read, quote_read, quoted_fits, quoted_corners}
 use Rattle.drawing.proofs.Renumbered.{Names, routes_renumbered, points_renumbered, lengths_renumbered, meets_renumbered, crossings_renumbered, length_renumbered, corner_count_renumbered}
 use Rattle.drawing.proofs.Sized.{Joins, joins_fit, named, joins_renumbered, joins_spaced, spaced_renumbered, many_bends_renumbered, many_bends_spaced, bends_renumbered, bends_spaced, GridSizes, sizes_renumbered, fields_within, sizes_spaced}
-use Rattle.layout.specs.Columns.{bottomLine, topLine}
-use Rattle.layout.specs.Points.{bottomRows, topRows}
+use Rattle.layout.specs.Columns.{bottom_line, top_line}
+use Rattle.layout.specs.Points.{bottom_rows, top_rows}
 use Rattle.layout.specs.Layout.{layout}
 use Rattle.layout.proofs.Step.{ins, outs}
 use Rattle.layout.proofs.Drawings.{Complete, complete}
@@ -156,7 +156,7 @@ module _ (st : Station) where
     routes_are = joins.routes_count ∙ length-map st.cables (ends_by (order st))
 
     -- 'The sheet has .. 2m - 2n + 2 + d + e corners and 3m - n + 3 + d + e words.'
-    pub corner_total : corner_count (drawing st).routes + 2 * st.parts ≡ 2 * length st.cables + 2 + bottomRows (graph_of st) + topRows (graph_of st)
+    pub corner_total : corner_count (drawing st).routes + 2 * st.parts ≡ 2 * length st.cables + 2 + bottom_rows (graph_of st) + top_rows (graph_of st)
     corner_total =
         let G : StGraph = graph_of st in
         omega (
@@ -168,7 +168,7 @@ module _ (st : Station) where
         )
 
     -- and m + 1 lengths (2026-01), in every spacing
-    pub all_words : (s : Spacing) → length (sheet_words s (drawing st)) + st.parts ≡ 4 * length st.cables + 4 + bottomRows (graph_of st) + topRows (graph_of st)
+    pub all_words : (s : Spacing) → length (sheet_words s (drawing st)) + st.parts ≡ 4 * length st.cables + 4 + bottom_rows (graph_of st) + top_rows (graph_of st)
     all_words s = omega (arith, length_is s, laid.words_count (graph_of st) R two s, graph_parts st, graph_size st)
 
     pub grid_sizes : GridSizes st.parts (length st.cables) (drawing st)
@@ -181,11 +181,11 @@ module _ (st : Station) where
     three : 3 ≤ (graph_of st).parts
     three = omega (arith, graph_parts st, H.wired.least)
 
-    grid_many_bends : ManyBends (length st.cables) (bottomLine (graph_of st)) (topLine (graph_of st)) (drawing st)
+    grid_many_bends : ManyBends (length st.cables) (bottom_line (graph_of st)) (top_line (graph_of st)) (drawing st)
     grid_many_bends =
         let G : StGraph = graph_of st in
-        let b : ℕ = bottomLine G in
-        let t : ℕ = topLine G in
+        let b : ℕ = bottom_line G in
+        let t : ℕ = top_line G in
         subst (λ (d : Drawing). ManyBends (length st.cables) b t d) (sym is_renumbered)
         (many_bends_renumbered (order st) (layout G) (length st.cables) b t (laid.routes_count G ∙ graph_size st)
         (subst (λ (m : ℕ). ManyBends m b t (layout G)) (graph_size st) (laid.many_bends G R two most three)))
@@ -225,8 +225,8 @@ module _ (st : Station) where
       pub crossings_there : crossings (spaced s (drawing st)) ≡ crossings (drawing st)
       crossings_there = crossings_spaced s grows (drawing st) meets
 
-      pub many_bends : ManyBends (length st.cables) (bottomLine (graph_of st)) (topLine (graph_of st)) (spaced s (drawing st))
-      many_bends = many_bends_spaced s (drawing st) (length st.cables) (bottomLine (graph_of st)) (topLine (graph_of st)) routes_are grid_many_bends
+      pub many_bends : ManyBends (length st.cables) (bottom_line (graph_of st)) (top_line (graph_of st)) (spaced s (drawing st))
+      many_bends = many_bends_spaced s (drawing st) (length st.cables) (bottom_line (graph_of st)) (top_line (graph_of st)) routes_are grid_many_bends
 
       pub bends : EndsOnce (graph_of st) → Bends (length st.cables) (spaced s (drawing st))
       bends once = bends_spaced s (drawing st) (length st.cables) routes_are (grid_bends once)

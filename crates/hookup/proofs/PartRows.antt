@@ -39,7 +39,7 @@ use Rattle.drawing.proofs.WordCounts.{drawing_length}
 use Rattle.drawing.specs.Reading.{parts_by_row}
 use Rattle.drawing.proofs.ReadBack.{SpotFits}
 use Rattle.drawing.proofs.Renumbered.{spot_renumbered}
-use Rattle.layout.specs.Points.{bottomRows, topRows, row, partSpot, rankSpot}
+use Rattle.layout.specs.Points.{bottom_rows, top_rows, row, part_spot, rank_spot}
 use Rattle.layout.specs.Layout.{drawn_in, layout}
 use Rattle.layout.proofs.Drawn as laid
 use Rattle.hookup.specs.Drawing.{drawing}
@@ -70,17 +70,17 @@ unfolding part_spot_word
 word_row s f = (fields_apart part s.x s.y (omega arith) f.x_fits f.y_fits).second_is
 
 module _ (st : Station) (H : Orderable st) where
-  part_spot : (p : ℕ) → p < st.parts → spot_of (drawing st) p ≡ rankSpot (graph_of st) (rank_in (order st) p)
+  part_spot_lem : (p : ℕ) → p < st.parts → spot_of (drawing st) p ≡ rank_spot (graph_of st) (rank_in (order st) p)
   unfolding rank_in
-  part_spot p h =
+  part_spot_lem p h =
       let g : p < length (layout (graph_of st)).parts = omega (arith, laid.parts_count (graph_of st), graph_parts st) in
       ap (λ (d : Drawing). spot_of d p) (is_renumbered st) ∙ spot_renumbered (order st) (layout (graph_of st)) p g
       ∙ laid.spot_of_lem (graph_of st) (rank_in (order st) p) (omega (arith, rank_below st H p h, graph_parts st))
 
   -- 'Rank k stands in row d + k.'
-  pub part_row : (p : ℕ) → p < st.parts → (spot_of (drawing st) p).y ≡ bottomRows (graph_of st) + rank_in (order st) p
-  unfolding rankSpot partSpot row
-  part_row p h = ap (λ (s : Spot). s.y) (part_spot p h)
+  pub part_row : (p : ℕ) → p < st.parts → (spot_of (drawing st) p).y ≡ bottom_rows (graph_of st) + rank_in (order st) p
+  unfolding rank_spot part_spot row
+  part_row p h = ap (λ (s : Spot). s.y) (part_spot_lem p h)
 
   O : StOrdering st (order st)
   O = order_ordering st H
@@ -91,7 +91,7 @@ module _ (st : Station) (H : Orderable st) where
   -- On the sheet
 
   module _ (s : Spacing) (P : Spreads s) (pass : check14 (spaced s (drawing st)) ≡ Nothing) (discount : Discount) where
-    word_of_row : (p : ℕ) → p < st.parts → second_of (get_or (quoted_words s discount (drawing st)) (1 + p) 0) ≡ row_at s (bottomRows (graph_of st) + rank_in (order st) p)
+    word_of_row : (p : ℕ) → p < st.parts → second_of (get_or (quoted_words s discount (drawing st)) (1 + p) 0) ≡ row_at s (bottom_rows (graph_of st) + rank_in (order st) p)
     unfolding spaced_spot
     word_of_row p h =
         let g : p < length (drawing st).parts = omega (arith, (joins st H).parts_count) in
@@ -101,15 +101,15 @@ module _ (st : Station) (H : Orderable st) where
         ∙ ap (row_at s) (part_row p h)
 
     -- the row of the part of rank k
-    pub rank_row : (k : ℕ) → k < length (order st) → row_of (quoted_words s discount (drawing st)) (get_or (order st) k 0) ≡ row_at s (bottomRows (graph_of st) + k)
+    pub rank_row : (k : ℕ) → k < length (order st) → row_of (quoted_words s discount (drawing st)) (get_or (order st) k 0) ≡ row_at s (bottom_rows (graph_of st) + k)
     unfolding row_of
     rank_row k h =
         let g : k < st.parts = omega (arith, O.all) in
-        word_of_row (get_or (order st) k 0) (O.inside k g) ∙ ap (λ (r : ℕ). row_at s (bottomRows (graph_of st) + r)) (rank_of_part st H k g)
+        word_of_row (get_or (order st) k 0) (O.inside k g) ∙ ap (λ (r : ℕ). row_at s (bottom_rows (graph_of st) + r)) (rank_of_part st H k g)
 
     rows_rise : (i j : ℕ) → i < j → j < length (order st) → row_of (quoted_words s discount (drawing st)) (get_or (order st) i 0) < row_of (quoted_words s discount (drawing st)) (get_or (order st) j 0)
     rows_rise i j h g =
-        omega (arith, rank_row i (omega arith), rank_row j g, (increases s P).rows (bottomRows (graph_of st) + i) (bottomRows (graph_of st) + j) (omega arith))
+        omega (arith, rank_row i (omega arith), rank_row j g, (increases s P).rows (bottom_rows (graph_of st) + i) (bottom_rows (graph_of st) + j) (omega arith))
 
     pub by_row : sort_by (row_of (quoted_words s discount (drawing st))) (range st.parts) ≡ order st
     by_row =
@@ -189,17 +189,17 @@ module _ (st : Station) (H : Orderable st) where
   greatest_back a b c r e h g (inr q) = omega arith
 
   -- all cables of s go out
-  pub bottom_rows : bottomRows (graph_of st) ≡ rows_below st
-  unfolding bottomRows rows_below
-  bottom_rows =
+  pub bottom_rows_lem : bottom_rows (graph_of st) ≡ rows_below st
+  unfolding bottom_rows rows_below
+  bottom_rows_lem =
       ap (λ (k : ℕ). one_if (eqb k 4))
       (end_lines (lower (graph_of st)) 0 st.source H.wired.source (rank_source st H)
       (λ i h. least (one i) (other i) _ (lower_is st i h)) (λ i h. least_back (one i) (other i) _ (lower_is st i h)))
 
   -- and all of t come in: 'and e the same for t'
-  pub top_rows : topRows (graph_of st) ≡ rows_above st
-  unfolding topRows rows_above
-  top_rows =
+  pub top_rows_lem : top_rows (graph_of st) ≡ rows_above st
+  unfolding top_rows rows_above
+  top_rows_lem =
       let r : ℕ = (graph_of st).parts - 1 in
       ap (λ (k : ℕ). one_if (eqb k 4))
       (end_lines (upper (graph_of st)) r st.analyser H.wired.analyser (omega (arith, rank_analyser st H, graph_parts st))
@@ -213,7 +213,7 @@ module _ (st : Station) (H : Orderable st) where
   pub height_is : (drawing st).height ≡ st.parts - 1 + rows_below st + rows_above st
   unfolding renumbered layout drawn_in
   height_is =
-      omega (arith, ap (λ (d : Drawing). d.height) (is_renumbered st), graph_parts st, bottom_rows, top_rows)
+      omega (arith, ap (λ (d : Drawing). d.height) (is_renumbered st), graph_parts st, bottom_rows_lem, top_rows_lem)
 
 -- the parts by rising row are the parts by rank
 pub parts_by_row_lem :

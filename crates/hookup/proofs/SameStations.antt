@@ -19,7 +19,7 @@ use Rattle.checks.specs.Checks.{Clear}
 use Rattle.station.specs.Station.{Station, no_cable, cable_of, station_of}
 use Rattle.order.specs.Checks.{all_checks}
 use Rattle.order.specs.Order.{order, rank_in}
-use Rattle.order.specs.Graph.{size, lower, upper}
+use Rattle.order.specs.Graph.{lower, upper}
 use Rattle.order.specs.Orientation.{graph_of}
 use Rattle.order.proofs.Joins.{within, cable_at}
 use Rattle.order.proofs.Bipolar.{Orderable}
@@ -32,7 +32,7 @@ use Rattle.canonical.proofs.Cables.{length_cables}
 use Rattle.canonical.proofs.Canonical.{canonical_cables_lem, canonical_same}
 use Rattle.canonical.proofs.Orders.{same_order}
 use Rattle.geometry.specs.Spots.{Spot, origin}
-use Rattle.drawing.specs.Drawing.{Route, Drawing, spot_of, crossings, renumbered}
+use Rattle.drawing.specs.Drawing.{Route, Drawing, spot_of, renumbered}
 use Rattle.drawing.specs.Alike.{SameDrawing}
 use Rattle.layout.specs.Layout.{layout}
 use Rattle.layout.proofs.Relabelled.{cables_between, SameCables, same_layout}

@@ -14,7 +14,7 @@ use Rattle.drawing.specs.Sheet.{quoted_words}
 use Rattle.drawing.specs.Reading.{parts_by_row, lengths_in, quote_in}
 use Rattle.drawing.specs.Sizes.{Sizes, Exactly, ManyBends, Bends}
 use Rattle.drawing.specs.Measured.{Measured}
-use Rattle.layout.specs.Columns.{bottomLine, topLine}
+use Rattle.layout.specs.Columns.{bottom_line, top_line}
 use Rattle.hookup.specs.declared.Options.{Options}
 use Rattle.hookup.specs.Reading.{drawing_of}
 
@@ -55,7 +55,7 @@ pub record Demand3 (options : Options) (list sheet : List ℕ) : Type 0 where
       (rows_below (station_of list)) (rows_above (station_of list)) grid sheet
   -- 'at most two cables have more than two': the bottom and the top connection
   pub many_bends :
-      ManyBends (length (station_of list).cables) (bottomLine (graph_of (station_of list))) (topLine (graph_of (station_of list)))
+      ManyBends (length (station_of list).cables) (bottom_line (graph_of (station_of list))) (top_line (graph_of (station_of list)))
       (drawing_of list sheet)
   -- 2026-04: 'no cable has more than two corners'; 2026-12: it is 'shown where the two lowest ranks, and the two highest, are not joined
   -- more than once'

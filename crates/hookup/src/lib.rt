@@ -1,4 +1,6 @@
 // Document 01 as a whole: definitions, demands and worked examples, and the two types of the call that they speak of.
+#![tactic(auto)]
+
 ghost use Rattle.std.specs.Prelude.{◌≡◌};
 ghost use Rattle.hookup.specs.Options as given;
 
@@ -6,7 +8,7 @@ use drawing::spacing::Spacing;
 use prices::Discount;
 
 // What the caller may give beside the list.
-#[derive(Drop)]
+#[derive(Clone, Copy)]
 pub struct Options {
     pub discount: Discount,
     pub spacing: Spacing,
@@ -43,7 +45,7 @@ impl Options {
 }
 
 // 'A successful call returns the words written and the crossings'; a refusal 'returns its number and one place, and writes no word'.
-#[derive(Drop)]
+#[derive(Clone, Copy)]
 pub enum Answer {
     Sheet { words: usize, crossings: usize },
     Refused { check: u8, place: usize },

@@ -21,8 +21,8 @@ use Rattle.order.specs.Graph.{StGraph, size, lower, upper, lines_at}
 use Rattle.order.specs.RankedGraphs.{Ranked}
 use Rattle.ordering.specs.Numbers.{rank_numbers}
 use Rattle.ranking.proofs.LineRanks.{rank_at}
-use Rattle.layout.specs.Columns.{lineBetween, bottomLine, topLine, byRank, byColumn, outgoing, incoming}
-use Rattle.layout.specs.Points.{bottomRows, topRows}
+use Rattle.layout.specs.Columns.{line_between, bottom_line, top_line, by_rank, by_column, outgoing, incoming}
+use Rattle.layout.specs.Points.{bottom_rows, top_rows}
 use Rattle.incidence.specs.Incidents.{at}
 use Rattle.ranking.proofs.GraphArrays.{rank_read}
 use Rattle.layout.proofs.EndLines.{lines_at_e, set_apart, between_ends, bottom_ends, bottom_some, top_ends, top_some}
@@ -92,58 +92,58 @@ fourth l x m n e b f g = go (ℕ_discrete n 4)
 
 module _ (G : StGraph) where
   pub between_found :
-      {m r : ℕ} (j k : ℕ) {f : Found} → m ≡ size G → f ≡ seek (goes_between (lower G) (upper G) j k) 0 m → r ≡ place_or m f → r ≡ lineBetween G j k
-  unfolding lineBetween
+      {m r : ℕ} (j k : ℕ) {f : Found} → m ≡ size G → f ≡ seek (goes_between (lower G) (upper G) j k) 0 m → r ≡ place_or m f → r ≡ line_between G j k
+  unfolding line_between
   between_found j k e q s = s ∙ rw (q, e)
 
-  pub outgoing_few : (k : ℕ) → (length (lines_at (size G) (lower G) k) ≡ 4 → ⊥) → outgoing G k ≡ byRank G k
-  unfolding outgoing byRank bottomLine
-  outgoing_few k n = apart_few (size G) (upper G) (lower G) 0 (lineBetween G 0 1) (λ h. (between_ends G 0 1 h).0) k n
+  pub outgoing_few : (k : ℕ) → (length (lines_at (size G) (lower G) k) ≡ 4 → ⊥) → outgoing G k ≡ by_rank G k
+  unfolding outgoing by_rank bottom_line
+  outgoing_few k n = apart_few (size G) (upper G) (lower G) 0 (line_between G 0 1) (λ h. (between_ends G 0 1 h).0) k n
 
   pub outgoing_four :
-      (k : ℕ) → length (lines_at (size G) (lower G) k) ≡ 4 → outgoing G k ≡ lastly (lineBetween G 0 1) (byRank G k)
-  unfolding outgoing byRank bottomLine
-  outgoing_four k e = apart_four (size G) (upper G) (lower G) 0 (lineBetween G 0 1) (λ h. (between_ends G 0 1 h).0) k e
+      (k : ℕ) → length (lines_at (size G) (lower G) k) ≡ 4 → outgoing G k ≡ lastly (line_between G 0 1) (by_rank G k)
+  unfolding outgoing by_rank bottom_line
+  outgoing_four k e = apart_four (size G) (upper G) (lower G) 0 (line_between G 0 1) (λ h. (between_ends G 0 1 h).0) k e
 
   module _ (xs : List ℕ) (k : ℕ) where
     pub incoming_few :
-        (length (lines_at (size G) (upper G) k) ≡ 4 → ⊥) → incoming G xs k ≡ byColumn G xs k
-    unfolding incoming byColumn topLine
+        (length (lines_at (size G) (upper G) k) ≡ 4 → ⊥) → incoming G xs k ≡ by_column G xs k
+    unfolding incoming by_column top_line
     incoming_few n =
-        apart_few (size G) (λ i. get_or xs i 0) (upper G) (G.parts - 1) (lineBetween G (G.parts - 2) (G.parts - 1))
+        apart_few (size G) (λ i. get_or xs i 0) (upper G) (G.parts - 1) (line_between G (G.parts - 2) (G.parts - 1))
         (λ h. (between_ends G (G.parts - 2) (G.parts - 1) h).1) k n
 
     pub incoming_four :
         length (lines_at (size G) (upper G) k) ≡ 4
-        → incoming G xs k ≡ lastly (lineBetween G (G.parts - 2) (G.parts - 1)) (byColumn G xs k)
-    unfolding incoming byColumn topLine
+        → incoming G xs k ≡ lastly (line_between G (G.parts - 2) (G.parts - 1)) (by_column G xs k)
+    unfolding incoming by_column top_line
     incoming_four e =
-        apart_four (size G) (λ i. get_or xs i 0) (upper G) (G.parts - 1) (lineBetween G (G.parts - 2) (G.parts - 1))
+        apart_four (size G) (λ i. get_or xs i 0) (upper G) (G.parts - 1) (line_between G (G.parts - 2) (G.parts - 1))
         (λ h. (between_ends G (G.parts - 2) (G.parts - 1) h).1) k e
 
-  bottom_none : (length (lines_at (size G) (lower G) 0) ≡ 4 → ⊥) → bottomLine G ≡ size G
-  unfolding bottomLine
+  bottom_none : (length (lines_at (size G) (lower G) 0) ≡ 4 → ⊥) → bottom_line G ≡ size G
+  unfolding bottom_line
   bottom_none n = rw (ne_eqb _ 4 n) refl
 
-  top_none : (length (lines_at (size G) (upper G) (G.parts - 1)) ≡ 4 → ⊥) → topLine G ≡ size G
-  unfolding topLine
+  top_none : (length (lines_at (size G) (upper G) (G.parts - 1)) ≡ 4 → ⊥) → top_line G ≡ size G
+  unfolding top_line
   top_none n = rw (ne_eqb _ 4 n) refl
 
   module _ (R : Ranked G) where
-    pub bottom_fourth : get_or (outgoing G 0) 3 (size G) ≡ bottomLine G
+    pub bottom_fourth : get_or (outgoing G 0) 3 (size G) ≡ bottom_line G
     bottom_fourth =
-        fourth (outgoing G 0) (bottomLine G) (size G) _ (length_outgoing G 0) (omega (arith, R.four 0))
-        (λ e. let h = bottom_some G R e in (outgoing_i G (bottomLine G) 0 h (bottom_ends G h).1, (bottom_place G R h).1)) bottom_none
+        fourth (outgoing G 0) (bottom_line G) (size G) _ (length_outgoing G 0) (omega (arith, R.four 0))
+        (λ e. let h = bottom_some G R e in (outgoing_i G (bottom_line G) 0 h (bottom_ends G h).1, (bottom_place G R h).1)) bottom_none
 
-    pub bottom_rows : bottomRows G ≡ one_if (ltb (bottomLine G) (size G))
-    unfolding bottomRows
-    bottom_rows = four_there _ (bottomLine G) (size G) (bottom_some G R) (λ h. (bottom_ends G h).0)
+    pub bottom_rows_lem : bottom_rows G ≡ one_if (ltb (bottom_line G) (size G))
+    unfolding bottom_rows
+    bottom_rows_lem = four_there _ (bottom_line G) (size G) (bottom_some G R) (λ h. (bottom_ends G h).0)
 
-    pub top_fourth : (xs : List ℕ) → get_or (incoming G xs (G.parts - 1)) 3 (size G) ≡ topLine G
+    pub top_fourth : (xs : List ℕ) → get_or (incoming G xs (G.parts - 1)) 3 (size G) ≡ top_line G
     top_fourth xs =
-        fourth (incoming G xs (G.parts - 1)) (topLine G) (size G) _ (length_incoming G xs (G.parts - 1)) (omega (arith, R.four (G.parts - 1)))
-        (λ e. let h = top_some G R e in (incoming_i G xs (topLine G) (G.parts - 1) h (top_ends G h).2, (top_place G R xs h).1)) top_none
+        fourth (incoming G xs (G.parts - 1)) (top_line G) (size G) _ (length_incoming G xs (G.parts - 1)) (omega (arith, R.four (G.parts - 1)))
+        (λ e. let h = top_some G R e in (incoming_i G xs (top_line G) (G.parts - 1) h (top_ends G h).2, (top_place G R xs h).1)) top_none
 
-    pub top_rows : topRows G ≡ one_if (ltb (topLine G) (size G))
-    unfolding topRows
-    top_rows = four_there _ (topLine G) (size G) (top_some G R) (λ h. (top_ends G h).0)
+    pub top_rows_lem : top_rows G ≡ one_if (ltb (top_line G) (size G))
+    unfolding top_rows
+    top_rows_lem = four_there _ (top_line G) (size G) (top_some G R) (λ h. (top_ends G h).0)

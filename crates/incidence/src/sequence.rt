@@ -3,7 +3,7 @@
 ghost use Rattle.std.specs.Prelude.{◌≡◌, ◌&&◌, take, eqb};
 ghost use Rattle.order.specs.Graph.{upper};
 ghost use Rattle.ranking.specs.Arrays.{graph_in, GraphFits};
-ghost use Rattle.layout.specs.Columns.{lineBetween, outgoing, incoming};
+ghost use Rattle.layout.specs.Columns.{line_between, outgoing, incoming};
 ghost use Rattle.incidence.specs.Incidents.{at, Holds, LastOf};
 
 use crate::incident::{Incident, by_column, by_rank, four};
@@ -22,7 +22,7 @@ fn joins(lower: Rank, upper: Rank, low: Rank, high: Rank) -> bool
 // downward or climb over t, the lowest line does'.
 fn line_between(graph: Graph, low: Rank, high: Rank) -> usize
     requires { GraphFits graph }
-    ensures { result ≡ lineBetween (graph_in graph) low.0 high.0 }
+    ensures { result ≡ line_between (graph_in graph) low.0 high.0 }
 {
     let lower = graph.lower;
     let upper = graph.upper;

@@ -9,7 +9,7 @@ use Rattle.order.specs.Graph.{StGraph, size, lower}
 use Rattle.order.specs.RankedGraphs.{Ranked}
 use Rattle.layout.specs.Columns.{columns}
 use Rattle.layout.proofs.Moved.{moved_le}
-use Rattle.layout.proofs.Step.{cable, part, width, ins, inAt, takenColumn, lefts, rights, cable_start, width_start, cable_opened, cable_kept, length_cables, length_parts, part_kept, part_opened, width_suc, out_place_below, taken_column_none, degree, ports, taken_column_comes}
+use Rattle.layout.proofs.Step.{cable, part, width, ins, in_at, taken_column, lefts, rights, cable_start, width_start, cable_opened, cable_kept, length_cables, length_parts, part_kept, part_opened, width_suc, out_place_below, taken_column_none, degree, ports, taken_column_comes}
 
 module _ (G : StGraph) where
   beyond : (k i : ℕ) → size G ≤ i → cable G k i ≡ 0
@@ -34,11 +34,11 @@ module _ (G : StGraph) where
       cables_start i (no h) = omega (arith, beyond 0 i (omega arith))
 
   module _ (R : Ranked G) where
-    pub taken_column_le : (k : ℕ) → Small k → takenColumn G k ≤ 4 * k
+    pub taken_column_le : (k : ℕ) → Small k → taken_column G k ≤ 4 * k
     taken_column_le k s = go (dec_lt 0 (ins G k))
       where
-        go : Dec (0 < ins G k) → takenColumn G k ≤ 4 * k
-        go (yes h) = omega (arith, taken_column_comes G R k h, s.cables (inAt G k ((ins G k - 1) / 2)))
+        go : Dec (0 < ins G k) → taken_column G k ≤ 4 * k
+        go (yes h) = omega (arith, taken_column_comes G R k h, s.cables (in_at G k ((ins G k - 1) / 2)))
         go (no h) = omega (arith, taken_column_none G k (omega arith))
 
     pub lefts_le : (k : ℕ) → lefts G k ≤ 1
@@ -57,12 +57,12 @@ module _ (G : StGraph) where
         cables_next : (i : ℕ) → Dec (i < size G) → Dec (lower G i ≡ k) → cable G (suc k) i ≤ 4 * suc k
         cables_next i (no h) d = omega (arith, beyond (suc k) i (omega arith))
         cables_next i (yes h) (no d) =
-            omega (arith, cable_kept G k i h d, moved_le (takenColumn G k) (lefts G k) (rights G k) (cable G k i), lefts_le k, rights_le k, s.cables i)
+            omega (arith, cable_kept G k i h d, moved_le (taken_column G k) (lefts G k) (rights G k) (cable G k i), lefts_le k, rights_le k, s.cables i)
         cables_next i (yes h) (yes d) = omega (arith, cable_opened G R k i h d, taken_column_le k s, out_place_below G k i h d, degree G R k)
 
         parts_next : (j : ℕ) → Dec (j < k) → Dec (j ≡ k) → part G (suc k) j ≤ 4 * suc k
         parts_next j (yes h) d =
-            omega (arith, part_kept G k j h, moved_le (takenColumn G k) (lefts G k) (rights G k) (part G k j), lefts_le k, rights_le k, s.parts j)
+            omega (arith, part_kept G k j h, moved_le (taken_column G k) (lefts G k) (rights G k) (part G k j), lefts_le k, rights_le k, s.parts j)
         parts_next j (no h) (yes d) = omega (arith, ap (part G (suc k)) d, part_opened G k, taken_column_le k s, lefts_le k)
         parts_next j (no h) (no d) = omega (arith, parts_beyond (suc k) j (omega arith))
 

@@ -15,7 +15,7 @@ use Rattle.lists.proofs.Stable.{Precedes, stable_sort_by, stable_places}
 use Rattle.lists.proofs.Sets.{rising_filter, rising_range}
 use Rattle.order.specs.Graph.{StGraph, size, lower, upper, lines_at}
 use Rattle.order.specs.RankedGraphs.{Ranked}
-use Rattle.layout.specs.Columns.{bottomLine, topLine, byRank, byColumn, columns}
+use Rattle.layout.specs.Columns.{bottom_line, top_line, by_rank, by_column, columns}
 use Rattle.layout.proofs.EndLines.{lines_at_e, distinct_lines_at, between_lowest}
 use Rattle.layout.proofs.Step.{cable}
 use Rattle.layout.proofs.Invariant.{invariant}
@@ -34,23 +34,23 @@ sorted_precedes key m rank k a b h g =
 module _ (G : StGraph) where
   -- 'Among equal ranks of far ends the lower line comes first', of the cables that go out
   pub by_rank_precedes :
-      (k a b : ℕ) → a < b → b < length (byRank G k) → Precedes (upper G) (get_or (byRank G k) a 0) (get_or (byRank G k) b 0)
-  unfolding byRank
+      (k a b : ℕ) → a < b → b < length (by_rank G k) → Precedes (upper G) (get_or (by_rank G k) a 0) (get_or (by_rank G k) b 0)
+  unfolding by_rank
   by_rank_precedes k a b h g = sorted_precedes (upper G) (size G) (lower G) k a b h g
 
   -- of those that come in, by their columns xs
   pub by_column_precedes :
-      (xs : List ℕ) (k a b : ℕ) → a < b → b < length (byColumn G xs k)
-      → Precedes (λ i. get_or xs i 0) (get_or (byColumn G xs k) a 0) (get_or (byColumn G xs k) b 0)
-  unfolding byColumn
+      (xs : List ℕ) (k a b : ℕ) → a < b → b < length (by_column G xs k)
+      → Precedes (λ i. get_or xs i 0) (get_or (by_column G xs k) a 0) (get_or (by_column G xs k) b 0)
+  unfolding by_column
   by_column_precedes xs k a b h g = sorted_precedes (λ i. get_or xs i 0) (size G) (upper G) k a b h g
 
   -- no two of those that come in have the same column
   pub by_column_rises :
-      Ranked G → (k a b : ℕ) → k ≤ G.parts → a < b → b < length (byColumn G (columns G k).cables k)
-      → get_or (columns G k).cables (get_or (byColumn G (columns G k).cables k) a 0) 0
-      < get_or (columns G k).cables (get_or (byColumn G (columns G k).cables k) b 0) 0
-  unfolding byColumn cable
+      Ranked G → (k a b : ℕ) → k ≤ G.parts → a < b → b < length (by_column G (columns G k).cables k)
+      → get_or (columns G k).cables (get_or (by_column G (columns G k).cables k) a 0) 0
+      < get_or (columns G k).cables (get_or (by_column G (columns G k).cables k) b 0) 0
+  unfolding by_column cable
   by_column_rises R k a b n h g = go (ℕ_discrete (key i) (key j))
     where
       key : ℕ → ℕ
@@ -82,12 +82,12 @@ module _ (G : StGraph) where
       go (no q) = omega (arith, p.rises)
 
   -- 'where several could leave s downward or climb over t, the lowest line does'
-  pub bottom_lowest : length (lines_at (size G) (lower G) 0) ≡ 4 → (i : ℕ) → i < size G → lower G i ≡ 0 → upper G i ≡ 1 → bottomLine G ≤ i
-  unfolding bottomLine
+  pub bottom_lowest : length (lines_at (size G) (lower G) 0) ≡ 4 → (i : ℕ) → i < size G → lower G i ≡ 0 → upper G i ≡ 1 → bottom_line G ≤ i
+  unfolding bottom_line
   bottom_lowest e i h a b = rw (eq-eqb _ 4 e) (between_lowest G 0 1 i h a b)
 
   pub top_lowest :
       length (lines_at (size G) (upper G) (G.parts - 1)) ≡ 4 → (i : ℕ) → i < size G → lower G i ≡ G.parts - 2 → upper G i ≡ G.parts - 1
-      → topLine G ≤ i
-  unfolding topLine
+      → top_line G ≤ i
+  unfolding top_line
   top_lowest e i h a b = rw (eq-eqb _ 4 e) (between_lowest G (G.parts - 2) (G.parts - 1) i h a b)

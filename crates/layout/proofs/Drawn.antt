@@ -35,8 +35,8 @@ use Rattle.drawing.proofs.Spaced.{Increases, grid_increases, parts_spaced, route
 use Rattle.drawing.proofs.WordCounts.{words_length}
 use Rattle.drawing.specs.Sizes.{ManyBends, Bends}
 use Rattle.drawing.proofs.Sized.{Joins, GridSizes, many_bends_of}
-use Rattle.layout.specs.Columns.{bottomLine, topLine, columns}
-use Rattle.layout.specs.Points.{turns, points_of, inner, corners_of, bottomRows, topRows, partSpot, course, rankSpot, courseOf}
+use Rattle.layout.specs.Columns.{bottom_line, top_line, columns}
+use Rattle.layout.specs.Points.{turns, points_of, inner, corners_of, bottom_rows, top_rows, part_spot, course, rank_spot, course_of}
 use Rattle.layout.specs.Layout.{drawn_in, layout}
 use Rattle.layout.specs.Over.{courses_cross}
 use Rattle.layout.specs.Courses.{spaced_course, CourseFits, LengthFits}
@@ -59,8 +59,8 @@ height_number n d e h = omega arith
 
 module _ (G : StGraph) where
   -- the cable at line i as it is drawn, and its two ranks
-  abbrev pub routeOf : ℕ → Route
-  routeOf i = record { first = lower G i; last = upper G i; corners = corners_of (courseOf G i) }
+  abbrev pub route_of : ℕ → Route
+  route_of i = record { first = lower G i; last = upper G i; corners = corners_of (course_of G i) }
 
   abbrev pub ends_of : ℕ → Endpoints
   ends_of i = record { first = lower G i; last = upper G i }
@@ -69,33 +69,33 @@ module _ (G : StGraph) where
   unfolding layout drawn_in
   parts_count = length_tabulate G.parts _
 
-  pub routes_are : (layout G).routes ≡ tabulate (size G) routeOf
-  unfolding layout drawn_in courseOf
+  pub routes_are : (layout G).routes ≡ tabulate (size G) route_of
+  unfolding layout drawn_in course_of
   routes_are = refl
 
   pub routes_count : length (layout G).routes ≡ size G
   routes_count = ap length routes_are ∙ length_tabulate (size G) _
 
-  pub spot_of_lem : (k : ℕ) → k < G.parts → spot_of (layout G) k ≡ rankSpot G k
-  unfolding spot_of layout drawn_in rankSpot
+  pub spot_of_lem : (k : ℕ) → k < G.parts → spot_of (layout G) k ≡ rank_spot G k
+  unfolding spot_of layout drawn_in rank_spot
   spot_of_lem k h = get_d_tabulate G.parts _ k origin h
 
-  pub route_at_lem : (i : ℕ) → i < size G → route_at (layout G) i ≡ routeOf i
+  pub route_at_lem : (i : ℕ) → i < size G → route_at (layout G) i ≡ route_of i
   unfolding route_at
   route_at_lem i h = ap (λ (l : List Route). get_or l i no_route) routes_are ∙ get_d_tabulate (size G) _ i no_route h
 
   -- the corners of all routes
-  corner_count_lem : corner_count (layout G).routes ≡ sum (tabulate (size G) (λ i. length (corners_of (courseOf G i))))
-  corner_count_lem = ap corner_count routes_are ∙ ap sum (map_tabulate (λ (r : Route). length r.corners) (size G) routeOf)
+  corner_count_lem : corner_count (layout G).routes ≡ sum (tabulate (size G) (λ i. length (corners_of (course_of G i))))
+  corner_count_lem = ap corner_count routes_are ∙ ap sum (map_tabulate (λ (r : Route). length r.corners) (size G) route_of)
 
 module _ (G : StGraph) (R : Ranked G) where
   abbrev line : ℕ → List Spot
-  line i = points_of (courseOf G i)
+  line i = points_of (course_of G i)
 
   -- Meetings
 
-  by_rank : Meetings G.parts (size G) (rankSpot G) (lower G) (upper G) line
-  unfolding rankSpot partSpot courseOf course
+  by_rank : Meetings G.parts (size G) (rank_spot G) (lower G) (upper G) line
+  unfolding rank_spot part_spot course_of course
   by_rank = meetings G _ _ _ _ _ (facts G R)
 
   first_at : (i : ℕ) → i < size G → (route_at (layout G) i).first ≡ lower G i
@@ -104,13 +104,13 @@ module _ (G : StGraph) (R : Ranked G) where
   last_at : (i : ℕ) → i < size G → (route_at (layout G) i).last ≡ upper G i
   last_at i h = ap (λ (r : Route). r.last) (route_at_lem G i h)
 
-  corners_at : (i : ℕ) → i < size G → (route_at (layout G) i).corners ≡ corners_of (courseOf G i)
+  corners_at : (i : ℕ) → i < size G → (route_at (layout G) i).corners ≡ corners_of (course_of G i)
   corners_at i h = ap (λ (r : Route). r.corners) (route_at_lem G i h)
 
-  first_spot : (i : ℕ) → i < size G → spot_of (layout G) (route_at (layout G) i).first ≡ rankSpot G (lower G i)
+  first_spot : (i : ℕ) → i < size G → spot_of (layout G) (route_at (layout G) i).first ≡ rank_spot G (lower G i)
   first_spot i h = ap (spot_of (layout G)) (first_at i h) ∙ spot_of_lem G (lower G i) (lower_inside G R i h)
 
-  last_spot : (i : ℕ) → i < size G → spot_of (layout G) (route_at (layout G) i).last ≡ rankSpot G (upper G i)
+  last_spot : (i : ℕ) → i < size G → spot_of (layout G) (route_at (layout G) i).last ≡ rank_spot G (upper G i)
   last_spot i h = ap (spot_of (layout G)) (last_at i h) ∙ spot_of_lem G (upper G i) (R.inside i h)
 
   -- the points of a cable are those of its course
@@ -132,8 +132,8 @@ module _ (G : StGraph) (R : Ranked G) where
 
   module _ (s : Spacing) (I : Increases s) where
     spaced_by_rank :
-        Meetings G.parts (size G) (λ k. spaced_spot s (rankSpot G k)) (lower G) (upper G) (λ i. points_of (spaced_course s (courseOf G i)))
-    unfolding rankSpot partSpot courseOf course spaced_spot spaced_course
+        Meetings G.parts (size G) (λ k. spaced_spot s (rank_spot G k)) (lower G) (upper G) (λ i. points_of (spaced_course s (course_of G i)))
+    unfolding rank_spot part_spot course_of course spaced_spot spaced_course
     spaced_by_rank = meetings_map (column_at s) (row_at s) I.columns I.rows G _ _ _ _ _ (facts G R)
 
     parts_there : length (spaced s (layout G)).parts ≡ G.parts
@@ -151,15 +151,15 @@ module _ (G : StGraph) (R : Ranked G) where
     last_there : (i : ℕ) → i < size G → (route_at (spaced s (layout G)) i).last ≡ upper G i
     last_there i h = last_spaced s (layout G) i (on_grid_lem i h) ∙ last_at i h
 
-    points_there : (i : ℕ) → i < size G → points_of (spaced_course s (courseOf G i)) ≡ points_at (spaced s (layout G)) i
+    points_there : (i : ℕ) → i < size G → points_of (spaced_course s (course_of G i)) ≡ points_at (spaced s (layout G)) i
     points_there i h =
-        points_of_spaced s I (courseOf G i) ∙ ap (map (spaced_spot s)) (points_at_lem i h) ∙ sym (points_inside s (layout G) i (on_grid_lem i h) (ends_inside i h))
+        points_of_spaced s I (course_of G i) ∙ ap (map (spaced_spot s)) (points_at_lem i h) ∙ sym (points_inside s (layout G) i (on_grid_lem i h) (ends_inside i h))
 
     pub meets_spaced : Meets (spaced s (layout G))
     meets_spaced =
         let d : Drawing = spaced s (layout G) in
         subst₂ (λ (n m : ℕ). Meetings n m (spot_of d) (λ i. (route_at d i).first) (λ i. (route_at d i).last) (points_at d)) (sym parts_there) (sym routes_there)
-        (renamed G.parts (size G) (λ k. spaced_spot s (rankSpot G k)) (lower G) (upper G) (λ i. points_of (spaced_course s (courseOf G i)))
+        (renamed G.parts (size G) (λ k. spaced_spot s (rank_spot G k)) (lower G) (upper G) (λ i. points_of (spaced_course s (course_of G i)))
         (λ k. k) (spot_of d) (λ i. (route_at d i).first) (λ i. (route_at d i).last) (points_at d)
         (record {
           inside = λ k h. h;
@@ -182,8 +182,8 @@ module _ (G : StGraph) (R : Ranked G) where
   -- The test on numbers agrees with the definition, for every two different cables, sharing a part or not (2026-02).
   pub pair_crosses :
       (i j : ℕ) → i < size G → j < size G → (i ≡ j → ⊥)
-      → cross_pair (layout G) (route_at (layout G) i) (route_at (layout G) j) ≡ courses_cross (courseOf G i) (courseOf G j)
-  unfolding cross_pair points_at courseOf course rankSpot partSpot
+      → cross_pair (layout G) (route_at (layout G) i) (route_at (layout G) j) ≡ courses_cross (course_of G i) (course_of G j)
+  unfolding cross_pair points_at course_of course rank_spot part_spot
   pair_crosses i j g h f =
       ap₂ lines_cross (sym (points_at_lem i g)) (sym (points_at_lem j h)) ∙ lines_cross_courses G _ _ _ _ _ (facts G R) i j g h f
 
@@ -200,11 +200,11 @@ module _ (G : StGraph) (R : Ranked G) where
     unfolding layout drawn_in
     width_is = width_number (columns G G.parts).count G.parts (size G) (columns_count G R two) wide
 
-    height_is : suc (layout G).height ≡ G.parts + bottomRows G + topRows G
+    height_is : suc (layout G).height ≡ G.parts + bottom_rows G + top_rows G
     unfolding layout drawn_in
-    height_is = height_number G.parts (bottomRows G) (topRows G) two
+    height_is = height_number G.parts (bottom_rows G) (top_rows G) two
 
-    corner_point : (i : ℕ) → i < size G → (s : Spot) → Memᴰ s (corners_of (courseOf G i)) → Memᴰ s (line i)
+    corner_point : (i : ℕ) → i < size G → (s : Spot) → Memᴰ s (corners_of (course_of G i)) → Memᴰ s (line i)
     unfolding points_at route_points
     corner_point i h s m =
         subst (λ (l : List Spot). Memᴰ s l) (sym (points_at_lem i h))
@@ -214,22 +214,22 @@ module _ (G : StGraph) (R : Ranked G) where
     Reached points P = (i : ℕ) × (k : ℕ) × (i < size G) × (k < length (points i)) × P (point (points i) k)
 
     -- each rank is the lower or the upper one of some cable
-    rank_reached : (P : Spot → Type 0) (k : ℕ) → k < G.parts → P (rankSpot G k) → Reached line P
+    rank_reached : (P : Spot → Type 0) (k : ℕ) → k < G.parts → P (rank_spot G k) → Reached line P
     rank_reached P zero h p =
         let c = R.continued 0 (omega arith) in (
           c.0,
           0,
           c.1,
           omega (arith, (by_rank.alone c.0 c.1).two),
-          subst P (sym ((by_rank.alone c.0 c.1).starts ∙ ap (rankSpot G) c.2)) p,
+          subst P (sym ((by_rank.alone c.0 c.1).starts ∙ ap (rank_spot G) c.2)) p,
         )
     rank_reached P (suc k) h p =
         let c = R.entered (suc k) (omega arith) h in
         let last : ℕ = length (line c.0) - 1 in
         let b = (by_rank.alone c.0 c.1).two in
-        (c.0, last, c.1, omega arith, subst P (sym ((by_rank.alone c.0 c.1).ends last (omega arith) ∙ ap (rankSpot G) c.2)) p)
+        (c.0, last, c.1, omega arith, subst P (sym ((by_rank.alone c.0 c.1).ends last (omega arith) ∙ ap (rank_spot G) c.2)) p)
 
-    corner_reached : (P : Spot → Type 0) (i : ℕ) (s : Spot) → i < size G → Memᴰ s (corners_of (courseOf G i)) → P s → Reached line P
+    corner_reached : (P : Spot → Type 0) (i : ℕ) (s : Spot) → i < size G → Memᴰ s (corners_of (course_of G i)) → P s → Reached line P
     unfolding point
     corner_reached P i s h m p =
         let t = mem-place (line i) origin (corner_point i h s m) in
@@ -237,7 +237,7 @@ module _ (G : StGraph) (R : Ranked G) where
 
     -- a spot of a rank or of a corner is a point of some cable
     reached :
-        (P : Spot → Type 0) → ((k : ℕ) × (k < G.parts) × P (rankSpot G k)) ⊎ ((i : ℕ) × (s : Spot) × (i < size G) × Memᴰ s (corners_of (courseOf G i)) × P s)
+        (P : Spot → Type 0) → ((k : ℕ) × (k < G.parts) × P (rank_spot G k)) ⊎ ((i : ℕ) × (s : Spot) × (i < size G) × Memᴰ s (corners_of (course_of G i)) × P s)
         → Reached (points_at (layout G)) P
     reached P t = drawn (⊎_elim (λ t. rank_reached P t.0 t.1 t.2) (λ t. corner_reached P t.0 t.1 t.2 t.3 t.4) t)
       where
@@ -252,11 +252,11 @@ module _ (G : StGraph) (R : Ranked G) where
         let w = points_within G R i h (get_or (line i) k origin) (get_d_mem (line i) k origin g) in
         (omega (arith, w.0, width_is), omega (arith, w.1, height_is))
 
-    rank_inside : (k : ℕ) → k < G.parts → ((rankSpot G k).x ≤ (layout G).width) × ((rankSpot G k).y ≤ (layout G).height)
+    rank_inside : (k : ℕ) → k < G.parts → ((rank_spot G k).x ≤ (layout G).width) × ((rank_spot G k).y ≤ (layout G).height)
     rank_inside k h = let w = spots_within G R k h in (omega (arith, w.0, width_is), omega (arith, w.1, height_is))
 
     -- '3m - n + 3 + d + e words', and m + 1 lengths (2026-01)
-    pub words_count : (s : Spacing) → length (sheet_words s (layout G)) + G.parts ≡ 4 * size G + 4 + bottomRows G + topRows G
+    pub words_count : (s : Spacing) → length (sheet_words s (layout G)) + G.parts ≡ 4 * size G + 4 + bottom_rows G + top_rows G
     words_count s = omega (arith, words_length s (layout G), parts_count G, routes_count G, corner_count_lem G, corners_sum G R two)
 
     -- no line is longer
@@ -264,7 +264,7 @@ module _ (G : StGraph) (R : Ranked G) where
     length_most i h = omega (arith, ap line_length (points_at_lem i h), line_most G R two i h)
 
     -- '2m - 2n + 2 + d + e corners'
-    pub corner_total : corner_count (layout G).routes + 2 * G.parts ≡ 2 * size G + 2 + bottomRows G + topRows G
+    pub corner_total : corner_count (layout G).routes + 2 * G.parts ≡ 2 * size G + 2 + bottom_rows G + top_rows G
     corner_total = omega (arith, corner_count_lem G, corners_sum G R two)
 
     -- Fields
@@ -272,12 +272,12 @@ module _ (G : StGraph) (R : Ranked G) where
     pub rank_column : (k : ℕ) → k < G.parts → get_or (columns G G.parts).parts k 0 ≤ (layout G).width
     rank_column k h = omega (arith, part_column_below G R G.parts k h, width_is)
 
-    pub rank_row : (k : ℕ) → k < G.parts → bottomRows G + k ≤ (layout G).height
+    pub rank_row : (k : ℕ) → k < G.parts → bottom_rows G + k ≤ (layout G).height
     rank_row k h = omega (arith, height_is)
 
-    turn_inside : (i : ℕ) → i < size G → (p : Spot) → Memᴰ p (turns (courseOf G i)) → (p.x ≤ (layout G).width) × (p.y ≤ (layout G).height)
+    turn_inside : (i : ℕ) → i < size G → (p : Spot) → Memᴰ p (turns (course_of G i)) → (p.x ≤ (layout G).width) × (p.y ≤ (layout G).height)
     turn_inside i h p t =
-        let w = points_within G R i h p (turns_points (courseOf G i) t) in
+        let w = points_within G R i h p (turns_points (course_of G i) t) in
         (omega (arith, w.0, width_is), omega (arith, w.1, height_is))
 
     -- the numbers of a course fit their fields where the sheet's head does
@@ -290,10 +290,10 @@ module _ (G : StGraph) (R : Ranked G) where
       unfolding spaced
       row_fits y h = omega (arith, increasing_le (row_at s) I.rows y (layout G).height h)
 
-      spot_fits : (i : ℕ) → i < size G → (p : Spot) → Memᴰ p (turns (courseOf G i)) → (column_at s p.x ≤ most_field) × (row_at s p.y ≤ most_field)
+      spot_fits : (i : ℕ) → i < size G → (p : Spot) → Memᴰ p (turns (course_of G i)) → (column_at s p.x ≤ most_field) × (row_at s p.y ≤ most_field)
       spot_fits i h p t = let w = turn_inside i h p t in (column_fits p.x w.0, row_fits p.y w.1)
 
-      pub course_fits : (i : ℕ) → i < size G → CourseFits (spaced_course s (courseOf G i))
+      pub course_fits : (i : ℕ) → i < size G → CourseFits (spaced_course s (course_of G i))
       unfolding turns spaced_course spaced_spot
       course_fits i h =
           let low = spot_fits i h _ (Memᴰ.tail (Memᴰ.tail (Memᴰ.head refl))) in
@@ -308,7 +308,7 @@ module _ (G : StGraph) (R : Ranked G) where
           }
 
     module _ (most : G.parts ≤ most_parts) where
-      pub length_fits : (i : ℕ) → i < size G → LengthFits (courseOf G i)
+      pub length_fits : (i : ℕ) → i < size G → LengthFits (course_of G i)
       length_fits i h = record { rises = rising G R i h; length = omega (arith, line_most G R two i h) }
 
       pub lengths_fit : LengthsFit (cable_lengths (layout G))
@@ -353,7 +353,7 @@ module _ (G : StGraph) (R : Ranked G) where
         x_reached = let r = reached (λ s. suc s.x ≡ (columns G G.parts).count) (width_spot G R two) in (r.0, r.1, r.2, r.3, omega (arith, r.4, width_is));
         y_most = λ i k h. subst (λ (l : List Spot). k < length l → (point l k).y ≤ (layout G).height) (points_at_lem i h) (λ g. (inside i k h g).1);
         y_reached =
-            let r = reached (λ s. suc s.y ≡ G.parts + bottomRows G + topRows G) (height_spot G R two) in (r.0, r.1, r.2, r.3, omega (arith, r.4, height_is));
+            let r = reached (λ s. suc s.y ≡ G.parts + bottom_rows G + top_rows G) (height_spot G R two) in (r.0, r.1, r.2, r.3, omega (arith, r.4, height_is));
         parts_within = λ p h. subst (λ (s : Spot). (s.x ≤ (layout G).width) × (s.y ≤ (layout G).height)) (sym (spot_of_lem G p h)) (rank_inside p h);
         width = omega (arith, width_is, columns_count G R two);
         height = omega (arith, height_is, bottom_rows_le G R, top_rows_le G R);
@@ -361,9 +361,9 @@ module _ (G : StGraph) (R : Ranked G) where
       }
 
       -- only the bottom and the top connection have more than two corners
-      pub many_bends : 3 ≤ G.parts → ManyBends (size G) (bottomLine G) (topLine G) (layout G)
+      pub many_bends : 3 ≤ G.parts → ManyBends (size G) (bottom_line G) (top_line G) (layout G)
       many_bends three =
-          many_bends_of (size G) (bottomLine G) (topLine G) (layout G) (routes_count G)
+          many_bends_of (size G) (bottom_line G) (top_line G) (layout G) (routes_count G)
           (λ i h l. corners_which G R i h (omega (arith, ap length (corners_at i h))))
           (λ i h. omega (arith, ap length (corners_at i h), corners_three G R three i h))
 

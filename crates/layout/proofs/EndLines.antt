@@ -19,7 +19,7 @@ use Rattle.lists.proofs.Select.{get_d_mem, filter_e, filter_i, range_e, range_i,
 use Rattle.order.specs.Graph.{StGraph, size, lower, upper, lines_at}
 use Rattle.order.specs.RankedGraphs.{Ranked}
 use Rattle.order.proofs.Graphs.{second_joined, last_joined}
-use Rattle.layout.specs.Columns.{lineBetween, bottomLine, topLine}
+use Rattle.layout.specs.Columns.{line_between, bottom_line, top_line}
 
 -- The lines at a rank
 
@@ -47,9 +47,9 @@ module _ (G : StGraph) where
   -- The lowest line from one rank to another: it is one, or there is none
 
   between : (j k : ℕ)
-      → ((lineBetween G j k < size G) × (lower G (lineBetween G j k) ≡ j) × (upper G (lineBetween G j k) ≡ k))
-      ⊎ ((lineBetween G j k ≡ size G) × ((i : ℕ) → i < size G → lower G i ≡ j → upper G i ≡ k → ⊥))
-  unfolding lineBetween
+      → ((line_between G j k < size G) × (lower G (line_between G j k) ≡ j) × (upper G (line_between G j k) ≡ k))
+      ⊎ ((line_between G j k ≡ size G) × ((i : ℕ) → i < size G → lower G i ≡ j → upper G i ≡ k → ⊥))
+  unfolding line_between
   between j k = go (seek_cases test 0 (size G))
     where
       test : ℕ → Bool
@@ -69,15 +69,15 @@ module _ (G : StGraph) where
         λ i h a b. false≢true (sym (f.1 i (omega arith) (omega arith)) ∙ and_i _ _ (eq-eqb (lower G i) j a) (eq-eqb (upper G i) k b)),
       )
 
-  pub between_ends : (j k : ℕ) → lineBetween G j k < size G → (lower G (lineBetween G j k) ≡ j) × (upper G (lineBetween G j k) ≡ k)
+  pub between_ends : (j k : ℕ) → line_between G j k < size G → (lower G (line_between G j k) ≡ j) × (upper G (line_between G j k) ≡ k)
   between_ends j k h = ⊎_elim (λ f. (f.1, f.2)) (λ f. absurd (omega (arith, f.0))) (between j k)
 
-  between_some : (j k i : ℕ) → i < size G → lower G i ≡ j → upper G i ≡ k → lineBetween G j k < size G
+  between_some : (j k i : ℕ) → i < size G → lower G i ≡ j → upper G i ≡ k → line_between G j k < size G
   between_some j k i h e f = ⊎_elim (λ q. q.0) (λ q. absurd (q.1 i h e f)) (between j k)
 
   -- no lower line goes from the one to the other
-  pub between_lowest : (j k i : ℕ) → i < size G → lower G i ≡ j → upper G i ≡ k → lineBetween G j k ≤ i
-  unfolding lineBetween
+  pub between_lowest : (j k i : ℕ) → i < size G → lower G i ≡ j → upper G i ≡ k → line_between G j k ≤ i
+  unfolding line_between
   between_lowest j k i h a b = go (seek_cases test 0 (size G))
     where
       test : ℕ → Bool
@@ -98,35 +98,35 @@ module _ (G : StGraph) where
   -- The bottom and the top connection
 
   -- the bottom connection is a line only where s has four cables, and goes to rank 1
-  pub bottom_ends : bottomLine G < size G → (length (lines_at (size G) (lower G) 0) ≡ 4) × (lower G (bottomLine G) ≡ 0) × (upper G (bottomLine G) ≡ 1)
-  unfolding bottomLine
+  pub bottom_ends : bottom_line G < size G → (length (lines_at (size G) (lower G) 0) ≡ 4) × (lower G (bottom_line G) ≡ 0) × (upper G (bottom_line G) ≡ 1)
+  unfolding bottom_line
   bottom_ends h =
-      let r = set_apart (λ x. (lower G x ≡ 0) × (upper G x ≡ 1)) (length (lines_at (size G) (lower G) 0)) (lineBetween G 0 1) (size G) (between_ends 0 1) h in
+      let r = set_apart (λ x. (lower G x ≡ 0) × (upper G x ≡ 1)) (length (lines_at (size G) (lower G) 0)) (line_between G 0 1) (size G) (between_ends 0 1) h in
       (r.0, r.1.0, r.1.1)
 
   -- the top connection only where t has, and comes from rank n - 2
   pub top_ends :
-      topLine G < size G
-      → (length (lines_at (size G) (upper G) (G.parts - 1)) ≡ 4) × (lower G (topLine G) ≡ G.parts - 2) × (upper G (topLine G) ≡ G.parts - 1)
-  unfolding topLine
+      top_line G < size G
+      → (length (lines_at (size G) (upper G) (G.parts - 1)) ≡ 4) × (lower G (top_line G) ≡ G.parts - 2) × (upper G (top_line G) ≡ G.parts - 1)
+  unfolding top_line
   top_ends h =
       let r =
       set_apart (λ x. (lower G x ≡ G.parts - 2) × (upper G x ≡ G.parts - 1)) (length (lines_at (size G) (upper G) (G.parts - 1)))
-      (lineBetween G (G.parts - 2) (G.parts - 1)) (size G) (between_ends (G.parts - 2) (G.parts - 1)) h in
+      (line_between G (G.parts - 2) (G.parts - 1)) (size G) (between_ends (G.parts - 2) (G.parts - 1)) h in
       (r.0, r.1.0, r.1.1)
 
   module _ (R : Ranked G) where
     -- The connections are there exactly where s and t have four cables
 
-    pub bottom_some : length (lines_at (size G) (lower G) 0) ≡ 4 → bottomLine G < size G
-    unfolding bottomLine
+    pub bottom_some : length (lines_at (size G) (lower G) 0) ≡ 4 → bottom_line G < size G
+    unfolding bottom_line
     bottom_some e =
         let a = lines_at_e (size G) (lower G) 0 (get_d_mem (lines_at (size G) (lower G) 0) 0 0 (omega arith)) in
         let c = second_joined G R (omega (arith, R.rises _ a.0, R.inside _ a.0)) in
         rw (eq-eqb _ 4 e) (between_some 0 1 c.0 c.1 c.2 c.3)
 
-    pub top_some : length (lines_at (size G) (upper G) (G.parts - 1)) ≡ 4 → topLine G < size G
-    unfolding topLine
+    pub top_some : length (lines_at (size G) (upper G) (G.parts - 1)) ≡ 4 → top_line G < size G
+    unfolding top_line
     top_some e =
         let a = lines_at_e (size G) (upper G) (G.parts - 1) (get_d_mem (lines_at (size G) (upper G) (G.parts - 1)) 0 0 (omega arith)) in
         let c = last_joined G R (omega (arith, R.rises _ a.0, R.inside _ a.0)) in

@@ -15,8 +15,8 @@ use Rattle.lists.proofs.Tests.{one_if_le}
 use Rattle.lists.proofs.Sums.{count_none, count_one}
 use Rattle.order.specs.Graph.{StGraph, size, lower, upper, lines_at}
 use Rattle.order.specs.RankedGraphs.{Ranked}
-use Rattle.layout.specs.Columns.{bottomLine, topLine, outgoing, incoming}
-use Rattle.layout.specs.Points.{bottomRows, topRows}
+use Rattle.layout.specs.Columns.{bottom_line, top_line, outgoing, incoming}
+use Rattle.layout.specs.Points.{bottom_rows, top_rows}
 use Rattle.layout.proofs.EndLines.{bottom_ends, bottom_some, top_ends, top_some}
 use Rattle.layout.proofs.Step.{outgoing_i, length_outgoing, incoming_i, length_incoming, bottom_last, top_last}
 use Rattle.layout.proofs.Turns.{differs}
@@ -45,54 +45,54 @@ differs_lane true u v n = rw (ne_eqb u v (n refl)) refl
 differs_lane false u v n = rw (eq-eqb v v refl) refl
 
 module _ (G : StGraph) (H : Ranked G) where
-  pub bottom_rows_le : bottomRows G ≤ 1
-  unfolding bottomRows
+  pub bottom_rows_le : bottom_rows G ≤ 1
+  unfolding bottom_rows
   bottom_rows_le = one_if_le (eqb (length (lines_at (size G) (lower G) 0)) 4)
 
-  pub top_rows_le : topRows G ≤ 1
-  unfolding topRows
+  pub top_rows_le : top_rows G ≤ 1
+  unfolding top_rows
   top_rows_le = one_if_le (eqb (length (lines_at (size G) (upper G) (G.parts - 1))) 4)
 
   -- as many bottom connections as rows below s, and as many top connections as rows above t
 
-  pub bottom_count : count (λ i. eqb i (bottomLine G)) (range (size G)) ≡ bottomRows G
-  unfolding bottomRows
-  bottom_count = count_four (size G) (bottomLine G) (length (lines_at (size G) (lower G) 0)) (bottom_some G H) (λ h. (bottom_ends G h).0)
+  pub bottom_count : count (λ i. eqb i (bottom_line G)) (range (size G)) ≡ bottom_rows G
+  unfolding bottom_rows
+  bottom_count = count_four (size G) (bottom_line G) (length (lines_at (size G) (lower G) 0)) (bottom_some G H) (λ h. (bottom_ends G h).0)
 
-  pub top_count : count (λ i. eqb i (topLine G)) (range (size G)) ≡ topRows G
-  unfolding topRows
-  top_count = count_four (size G) (topLine G) (length (lines_at (size G) (upper G) (G.parts - 1))) (top_some G H) (λ h. (top_ends G h).0)
+  pub top_count : count (λ i. eqb i (top_line G)) (range (size G)) ≡ top_rows G
+  unfolding top_rows
+  top_count = count_four (size G) (top_line G) (length (lines_at (size G) (upper G) (G.parts - 1))) (top_some G H) (λ h. (top_ends G h).0)
 
   -- Where there is a bottom connection there is a row below s, and it is the fourth of the outgoing cables; the same for a top connection
   -- and t.
 
-  pub bottom_row : bottomLine G < size G → bottomRows G ≡ 1
-  unfolding bottomRows
+  pub bottom_row : bottom_line G < size G → bottom_rows G ≡ 1
+  unfolding bottom_rows
   bottom_row h = four_row (length (lines_at (size G) (lower G) 0)) (bottom_ends G h).0
 
-  pub top_row : topLine G < size G → topRows G ≡ 1
-  unfolding topRows
+  pub top_row : top_line G < size G → top_rows G ≡ 1
+  unfolding top_rows
   top_row h = four_row (length (lines_at (size G) (upper G) (G.parts - 1))) (top_ends G h).0
 
-  pub row_top : topRows G ≡ 1 → topLine G < size G
-  unfolding topRows
+  pub row_top : top_rows G ≡ 1 → top_line G < size G
+  unfolding top_rows
   row_top e = top_some G H (row_four (length (lines_at (size G) (upper G) (G.parts - 1))) e)
 
-  pub bottom_place : bottomLine G < size G → (lower G (bottomLine G) ≡ 0) × (index_of (bottomLine G) (outgoing G 0) ≡ 3)
+  pub bottom_place : bottom_line G < size G → (lower G (bottom_line G) ≡ 0) × (index_of (bottom_line G) (outgoing G 0) ≡ 3)
   bottom_place h = let b = bottom_ends G h in (b.1, omega (arith, bottom_last G h, b.0))
 
-  pub top_place : (xs : List ℕ) → topLine G < size G → (upper G (topLine G) ≡ G.parts - 1) × (index_of (topLine G) (incoming G xs (G.parts - 1)) ≡ 3)
+  pub top_place : (xs : List ℕ) → top_line G < size G → (upper G (top_line G) ≡ G.parts - 1) × (index_of (top_line G) (incoming G xs (G.parts - 1)) ≡ 3)
   top_place xs h = let t = top_ends G h in (t.2, omega (arith, top_last G xs h, t.0))
 
   -- and no other cable is the fourth
-  pub place_bottom : (i : ℕ) → i < size G → lower G i ≡ 0 → index_of i (outgoing G 0) ≡ 3 → i ≡ bottomLine G
+  pub place_bottom : (i : ℕ) → i < size G → lower G i ≡ 0 → index_of i (outgoing G 0) ≡ 3 → i ≡ bottom_line G
   place_bottom i h e q =
       let m = outgoing_i G i 0 h e in
       let b = bottom_some G H (omega (arith, index_of_below (outgoing G 0) m, length_outgoing G 0, H.four 0)) in
-      index_of_one (outgoing G 0) m (outgoing_i G (bottomLine G) 0 b (bottom_ends G b).1) (q ∙ sym (bottom_place b).1)
+      index_of_one (outgoing G 0) m (outgoing_i G (bottom_line G) 0 b (bottom_ends G b).1) (q ∙ sym (bottom_place b).1)
 
-  pub place_top : (xs : List ℕ) (i : ℕ) → i < size G → upper G i ≡ G.parts - 1 → index_of i (incoming G xs (G.parts - 1)) ≡ 3 → i ≡ topLine G
+  pub place_top : (xs : List ℕ) (i : ℕ) → i < size G → upper G i ≡ G.parts - 1 → index_of i (incoming G xs (G.parts - 1)) ≡ 3 → i ≡ top_line G
   place_top xs i h e q =
       let m = incoming_i G xs i (G.parts - 1) h e in
       let t = top_some G H (omega (arith, index_of_below (incoming G xs (G.parts - 1)) m, length_incoming G xs (G.parts - 1), H.four (G.parts - 1))) in
-      index_of_one (incoming G xs (G.parts - 1)) m (incoming_i G xs (topLine G) (G.parts - 1) t (top_ends G t).2) (q ∙ sym (top_place xs t).1)
+      index_of_one (incoming G xs (G.parts - 1)) m (incoming_i G xs (top_line G) (G.parts - 1) t (top_ends G t).2) (q ∙ sym (top_place xs t).1)

@@ -31,17 +31,17 @@ module _ (G : StGraph) where
   abbrev ins : ℕ → ℕ
   ins = step.ins G
 
-  abbrev outPlace : ℕ → ℕ → ℕ
-  outPlace = step.outPlace G
+  abbrev out_place : ℕ → ℕ → ℕ
+  out_place = step.out_place G
 
-  abbrev inPlace : ℕ → ℕ → ℕ
-  inPlace = step.inPlace G
+  abbrev in_place : ℕ → ℕ → ℕ
+  in_place = step.in_place G
 
-  abbrev inAt : ℕ → ℕ → ℕ
-  inAt = step.inAt G
+  abbrev in_at : ℕ → ℕ → ℕ
+  in_at = step.in_at G
 
-  abbrev takenColumn : ℕ → ℕ
-  takenColumn = step.takenColumn G
+  abbrev taken_column : ℕ → ℕ
+  taken_column = step.taken_column G
 
   abbrev lefts : ℕ → ℕ
   lefts = step.lefts G
@@ -55,10 +55,10 @@ module _ (G : StGraph) where
 
   -- Cable i goes out of rank r in the rank's row, or comes in in it: it is not the fourth. (The fourth is a bottom or a top connection.)
   abbrev pub Leaves : ℕ → ℕ → Type 0
-  Leaves i r = (lower G i ≡ r) × (outPlace r i < 3)
+  Leaves i r = (lower G i ≡ r) × (out_place r i < 3)
 
   abbrev pub Enters : ℕ → ℕ → Type 0
-  Enters i r = (upper G i ≡ r) × (inPlace r i < 3)
+  Enters i r = (upper G i ≡ r) × (in_place r i < 3)
 
   abbrev pub Meets : ℕ → ℕ → Type 0
   Meets i r = Leaves i r ⊎ Enters i r
@@ -66,8 +66,8 @@ module _ (G : StGraph) where
   -- cable i has spots below and above the row of rank r
   pub data Passes (i r : ℕ) : Type 0 where
     by : lower G i < r → r < upper G i → Passes i r
-    bottom : lower G i ≡ r → outPlace r i ≡ 3 → Passes i r
-    top : upper G i ≡ r → inPlace r i ≡ 3 → Passes i r
+    bottom : lower G i ≡ r → out_place r i ≡ 3 → Passes i r
+    top : upper G i ≡ r → in_place r i ≡ 3 → Passes i r
 
   -- the facts at rank r, which stands in column c, with the cables in the columns x
   pub record RankFacts (x : ℕ → ℕ) (c r : ℕ) : Type 0 where
@@ -132,7 +132,7 @@ module _ (G : StGraph) where
         omega (arith, in_place_below G k c.0 c.1 c.2)
 
     -- only rank 0 has a fourth outgoing cable, and none comes in there
-    pub fourth : (i : ℕ) → i < size G → lower G i ≡ k → outPlace k i ≡ 3 → (k ≡ 0) × (ins k ≡ 0)
+    pub fourth : (i : ℕ) → i < size G → lower G i ≡ k → out_place k i ≡ 3 → (k ≡ 0) × (ins k ≡ 0)
     fourth i h e q = go (dec_lt 0 k)
       where
         go : Dec (0 < k) → (k ≡ 0) × (ins k ≡ 0)
@@ -141,12 +141,12 @@ module _ (G : StGraph) where
 
     -- Outgoing cables, in the block of columns from the one taken
 
-    opens_at : (i : ℕ) → i < size G → lower G i ≡ k → cable (suc k) i ≡ takenColumn k + outPlace k i
+    opens_at : (i : ℕ) → i < size G → lower G i ≡ k → cable (suc k) i ≡ taken_column k + out_place k i
     opens_at = cable_opened G R k
 
-    opens_in : (i : ℕ) → i < size G → lower G i ≡ k → cable (suc k) i ≤ takenColumn k + lefts k + rights k
+    opens_in : (i : ℕ) → i < size G → lower G i ≡ k → cable (suc k) i ≤ taken_column k + lefts k + rights k
     opens_in i h e =
-        let b : outPlace k i < outs k = out_place_below G k i h e in
+        let b : out_place k i < outs k = out_place_below G k i h e in
         omega (arith, opens_at i h e, table.all (omega arith))
 
     -- of two outgoing cables
@@ -155,7 +155,7 @@ module _ (G : StGraph) where
 
     -- Incoming cables, and those that pass
 
-    old : (i : ℕ) → i < size G → lower G i < k → cable (suc k) i ≡ moved (takenColumn k) (lefts k) (rights k) (cable k i)
+    old : (i : ℕ) → i < size G → lower G i < k → cable (suc k) i ≡ moved (taken_column k) (lefts k) (rights k) (cable k i)
     old i h l = cable_kept G k i h (omega arith)
 
     entering : (i : ℕ) → i < size G → upper G i ≡ k → lower G i < k
@@ -164,30 +164,30 @@ module _ (G : StGraph) where
     some : (i : ℕ) → i < size G → upper G i ≡ k → 0 < ins k
     some i h e = omega (arith, in_place_below G k i h e)
 
-    enters_left : (i : ℕ) → i < size G → Enters i k → cable k i < takenColumn k → inPlace k i < middle k
-    enters_left i h e l = go (dec_lt (inPlace k i) (middle k))
+    enters_left : (i : ℕ) → i < size G → Enters i k → cable k i < taken_column k → in_place k i < middle k
+    enters_left i h e l = go (dec_lt (in_place k i) (middle k))
       where
-        go : Dec (inPlace k i < middle k) → inPlace k i < middle k
+        go : Dec (in_place k i < middle k) → in_place k i < middle k
         go (yes a) = a
         go (no a) =
             absurd
             (omega (
               arith,
-              in_at_rises G k (middle k) (inPlace k i) (omega arith) (in_place_below G k i h e.0) e.1,
+              in_at_rises G k (middle k) (in_place k i) (omega arith) (in_place_below G k i h e.0) e.1,
               ap (cable k) (in_at_in_place G k i h e.0),
               taken_column_comes G R k (some i h e.0),
             ))
 
-    enters_right : (i : ℕ) → i < size G → Enters i k → takenColumn k < cable k i → middle k < inPlace k i
-    enters_right i h e l = go (dec_lt (middle k) (inPlace k i))
+    enters_right : (i : ℕ) → i < size G → Enters i k → taken_column k < cable k i → middle k < in_place k i
+    enters_right i h e l = go (dec_lt (middle k) (in_place k i))
       where
-        go : Dec (middle k < inPlace k i) → middle k < inPlace k i
+        go : Dec (middle k < in_place k i) → middle k < in_place k i
         go (yes a) = a
         go (no a) =
             absurd
             (omega (
               arith,
-              in_at_rises G k (inPlace k i) (middle k) (omega arith) (omega (arith, some i h e.0)) (omega (arith, outs_ins)),
+              in_at_rises G k (in_place k i) (middle k) (omega arith) (omega (arith, some i h e.0)) (omega (arith, outs_ins)),
               ap (cable k) (in_at_in_place G k i h e.0),
               taken_column_comes G R k (some i h e.0),
             ))
@@ -195,7 +195,7 @@ module _ (G : StGraph) where
     -- A side of the part has one outgoing cable, at place s, where at most b come in, or one incoming, at place t, where more do
 
     abbrev Side : ℕ → ℕ → ℕ → ℕ → Type 0
-    Side s t b i = ((lower G i ≡ k) × (outPlace k i ≡ s) × (ins k ≤ b)) ⊎ ((upper G i ≡ k) × (inPlace k i ≡ t) × (b < ins k))
+    Side s t b i = ((lower G i ≡ k) × (out_place k i ≡ s) × (ins k ≤ b)) ⊎ ((upper G i ≡ k) × (in_place k i ≡ t) × (b < ins k))
 
     one_side : (s t b i j : ℕ) → i < size G → j < size G → Side s t b i → Side s t b j → i ≡ j
     one_side s t b i j h g (inl c) (inl d) = out_place_one G k i j h g c.0 d.0 (c.1 ∙ sym d.1)
@@ -205,61 +205,61 @@ module _ (G : StGraph) where
 
     left_side : (i : ℕ) → i < size G → Meets i k → cable (suc k) i < part (suc k) k → Side 0 0 2 i
     left_side i h (inl l) s =
-        let b : outPlace k i < lefts k = omega (arith, opens_at i h l.0, part_opened G k) in
+        let b : out_place k i < lefts k = omega (arith, opens_at i h l.0, part_opened G k) in
         inl (l.0, omega (arith, table.one_left), table.new_left_lem (omega arith))
     left_side i h (inr e) s =
-        let b : cable k i < takenColumn k =
-        moved_from_left (takenColumn k) (lefts k) (rights k) (cable k i) (omega (arith, old i h (entering i h e.0), part_opened G k)) in
-        let q = in_left (ins k) (inPlace k i) (omega (arith, outs_ins)) (enters_left i h e b) in
+        let b : cable k i < taken_column k =
+        moved_from_left (taken_column k) (lefts k) (rights k) (cable k i) (omega (arith, old i h (entering i h e.0), part_opened G k)) in
+        let q = in_left (ins k) (in_place k i) (omega (arith, outs_ins)) (enters_left i h e b) in
         inr (e.0, q.0, q.1)
 
     right_side : (i : ℕ) → i < size G → Meets i k → part (suc k) k < cable (suc k) i → Side (lefts k + 1) (middle k + 1) 1 i
     right_side i h (inl l) s =
-        let b : lefts k < outPlace k i = omega (arith, opens_at i h l.0, part_opened G k) in
-        let q = table.new_right_lem (outPlace k i) (out_place_below G k i h l.0) l.1 b in
+        let b : lefts k < out_place k i = omega (arith, opens_at i h l.0, part_opened G k) in
+        let q = table.new_right_lem (out_place k i) (out_place_below G k i h l.0) l.1 b in
         inl (l.0, q.1, q.0)
     right_side i h (inr e) s =
-        let b : takenColumn k < cable k i =
-        moved_from_right (takenColumn k) (lefts k) (rights k) (cable k i) (omega (arith, old i h (entering i h e.0), part_opened G k)) in
-        let q = in_right (ins k) (inPlace k i) (omega (arith, outs_ins)) (in_place_below G k i h e.0) e.1 (enters_right i h e b) in
+        let b : taken_column k < cable k i =
+        moved_from_right (taken_column k) (lefts k) (rights k) (cable k i) (omega (arith, old i h (entering i h e.0), part_opened G k)) in
+        let q = in_right (ins k) (in_place k i) (omega (arith, outs_ins)) (in_place_below G k i h e.0) e.1 (enters_right i h e b) in
         inr (e.0, q.0, q.1)
 
     module _ (I : Invariant k) where
       -- a cable that is open at k and not at the taken place is not in the column taken
-      aside : (i : ℕ) → i < size G → lower G i < k → k ≤ upper G i → (upper G i ≡ k → inPlace k i ≡ middle k → ⊥) → cable k i ≡ takenColumn k → ⊥
+      aside : (i : ℕ) → i < size G → lower G i < k → k ≤ upper G i → (upper G i ≡ k → in_place k i ≡ middle k → ⊥) → cable k i ≡ taken_column k → ⊥
       aside i h l u d e =
-          I.apart i (inAt k (middle k)) h there.0 other l (omega (arith, R.rises _ there.0, there.1)) (omega (arith, there.1))
+          I.apart i (in_at k (middle k)) h there.0 other l (omega (arith, R.rises _ there.0, there.1)) (omega (arith, there.1))
           (omega (arith, R.rises _ there.0, there.1)) (e ∙ taken_column_comes G R k (entered (omega arith)))
         where
-          there : (inAt k (middle k) < size G) × (upper G (inAt k (middle k)) ≡ k)
+          there : (in_at k (middle k) < size G) × (upper G (in_at k (middle k)) ≡ k)
           there = in_at_comes G k (middle k) (omega (arith, entered (omega arith)))
 
-          other : i ≡ inAt k (middle k) → ⊥
+          other : i ≡ in_at k (middle k) → ⊥
           other q =
               let f : upper G i ≡ k = ap (upper G) q ∙ there.1 in
               d f
-              (in_at_one G k (inPlace k i) (middle k) (in_place_below G k i h f)
+              (in_at_one G k (in_place k i) (middle k) (in_place_below G k i h f)
               (omega (arith, some i h f)) (in_at_in_place G k i h f ∙ q))
 
       -- so it is moved out of the block
-      aside_out : (i : ℕ) → i < size G → lower G i < k → k ≤ upper G i → (upper G i ≡ k → inPlace k i ≡ middle k → ⊥)
-          → takenColumn k ≤ cable (suc k) i → cable (suc k) i ≤ takenColumn k + lefts k + rights k → ⊥
+      aside_out : (i : ℕ) → i < size G → lower G i < k → k ≤ upper G i → (upper G i ≡ k → in_place k i ≡ middle k → ⊥)
+          → taken_column k ≤ cable (suc k) i → cable (suc k) i ≤ taken_column k + lefts k + rights k → ⊥
       aside_out i h l u d s t =
-          moved_outside (takenColumn k) (lefts k) (rights k) (cable k i) (aside i h l u d)
+          moved_outside (taken_column k) (lefts k) (rights k) (cable k i) (aside i h l u d)
           (omega (arith, old i h l)) (omega (arith, old i h l))
 
       -- and a cable that passes is not between the column taken and another one of the block, which is not the bottom connection's
-      passes_out : (i u : ℕ) → i < size G → Passes i k → u ≤ takenColumn k + lefts k + rights k → u < takenColumn k + 3
-          → takenColumn k ≤ cable (suc k) i → cable (suc k) i ≤ u → ⊥
+      passes_out : (i u : ℕ) → i < size G → Passes i k → u ≤ taken_column k + lefts k + rights k → u < taken_column k + 3
+          → taken_column k ≤ cable (suc k) i → cable (suc k) i ≤ u → ⊥
       passes_out i u h (by l r) a b s t = aside_out i h l (omega arith) (λ e q. omega arith) s (omega arith)
       passes_out i u h (bottom e q) a b s t = omega (arith, opens_at i h e)
       passes_out i u h (top e q) a b s t = aside_out i h (entering i h e) (omega arith) (λ f r. omega (arith, outs_ins)) s (omega arith)
 
       -- up to the part, or to an outgoing cable
-      passes_part : (i : ℕ) → i < size G → Passes i k → takenColumn k ≤ cable (suc k) i → cable (suc k) i ≤ part (suc k) k → ⊥
+      passes_part : (i : ℕ) → i < size G → Passes i k → taken_column k ≤ cable (suc k) i → cable (suc k) i ≤ part (suc k) k → ⊥
       passes_part i h p = passes_out i (part (suc k) k) h p (omega (arith, part_opened G k)) (omega (arith, part_opened G k, table.one_left))
 
-      passes_leaves : (i j : ℕ) → i < size G → j < size G → Leaves i k → Passes j k → takenColumn k ≤ cable (suc k) j → cable (suc k) j ≤ cable (suc k) i → ⊥
+      passes_leaves : (i j : ℕ) → i < size G → j < size G → Leaves i k → Passes j k → taken_column k ≤ cable (suc k) j → cable (suc k) j ≤ cable (suc k) i → ⊥
       passes_leaves i j h g l p = passes_out j (cable (suc k) i) g p (opens_in i h l.0) (omega (arith, opens_at i h l.0))
 
       stands_new : RankFacts (cable (suc k)) (part (suc k) k) k
@@ -284,7 +284,7 @@ module _ (G : StGraph) where
           go (no e) (yes f) = opens_apart j i g h f (omega arith) (omega arith) (sym q)
           go (no e) (no f) =
               I.apart i j h g d (omega arith) (omega arith) u v
-              (increasing_one _ (moved_increasing (takenColumn k) (lefts k) (rights k)) _ _
+              (increasing_one _ (moved_increasing (taken_column k) (lefts k) (rights k)) _ _
               (sym (old i h (omega arith)) ∙ q ∙ old j g (omega arith)))
 
       pub next : Invariant (suc k)
@@ -292,8 +292,8 @@ module _ (G : StGraph) where
         where
           go : (r : ℕ) → r < suc k → Dec (r < k) → RankFacts (cable (suc k)) (part (suc k) r) r
           go r h (yes l) =
-              stands_moved R.rises (moved (takenColumn k) (lefts k) (rights k)) (cable k) (cable (suc k))
-              (moved_increasing (takenColumn k) (lefts k) (rights k)) (part k r) r
+              stands_moved R.rises (moved (taken_column k) (lefts k) (rights k)) (cable k) (cable (suc k))
+              (moved_increasing (taken_column k) (lefts k) (rights k)) (part k r) r
               (λ i b c. old i b (omega arith)) (part (suc k) r) (part_kept G k r l) (I.stands r l)
           go r h (no l) =
               let e : r ≡ k = omega arith in

@@ -14,8 +14,8 @@ use Rattle.geometry.specs.Spots.{Spot, same_spot}
 use Rattle.drawing.specs.Lengths.{steps, distance, line_length, most_length}
 use Rattle.geometry.proofs.Spots.{same_spot_e}
 use Rattle.drawing.proofs.Lengths.{steps_none, steps_back, steps_up, steps_most, length_next, length_one}
-use Rattle.layout.specs.Columns.{bottomLine, topLine, columns}
-use Rattle.layout.specs.Points.{Course, turns, drop_repeats, points_of, row, partSpot, course, rankSpot, courseOf}
+use Rattle.layout.specs.Columns.{bottom_line, top_line, columns}
+use Rattle.layout.specs.Points.{Course, turns, drop_repeats, points_of, row, part_spot, course, rank_spot, course_of}
 use Rattle.layout.proofs.Turns.{repeats_first}
 use Rattle.layout.proofs.EndLines.{bottom_ends, top_ends}
 use Rattle.layout.proofs.ExtraRows.{bottom_rows_le, top_rows_le}
@@ -90,31 +90,31 @@ lane_step true u r h = h refl
 lane_step false u r h = omega (arith, steps_none r)
 
 module _ (G : StGraph) (R : Ranked G) where
-  from_step : (i : ℕ) → i < size G → steps (courseOf G i).from.y (courseOf G i).low ≤ 1
-  unfolding courseOf course partSpot row
+  from_step : (i : ℕ) → i < size G → steps (course_of G i).from.y (course_of G i).low ≤ 1
+  unfolding course_of course part_spot row
   from_step i h =
-      lane_step (eqb i (bottomLine G)) 0 (row G (lower G i)) λ e.
-      let q : i ≡ bottomLine G = eqb-true i (bottomLine G) e in
+      lane_step (eqb i (bottom_line G)) 0 (row G (lower G i)) λ e.
+      let q : i ≡ bottom_line G = eqb-true i (bottom_line G) e in
       let z : lower G i ≡ 0 = ap (lower G) q ∙ (bottom_ends G (omega arith)).1 in
       steps_most (row G (lower G i)) 0 1 (omega (arith, bottom_rows_le G R)) (omega arith)
 
-  to_step : (i : ℕ) → i < size G → steps (courseOf G i).high (courseOf G i).to.y ≤ 1
-  unfolding courseOf course partSpot row
+  to_step : (i : ℕ) → i < size G → steps (course_of G i).high (course_of G i).to.y ≤ 1
+  unfolding course_of course part_spot row
   to_step i h =
       omega (
         arith,
-        steps_back (courseOf G i).high (courseOf G i).to.y,
-        lane_step (eqb i (topLine G)) (row G G.parts) (row G (upper G i)) (λ e.
-            let q : i ≡ topLine G = eqb-true i (topLine G) e in
+        steps_back (course_of G i).high (course_of G i).to.y,
+        lane_step (eqb i (top_line G)) (row G G.parts) (row G (upper G i)) (λ e.
+            let q : i ≡ top_line G = eqb-true i (top_line G) e in
             let z : upper G i ≡ G.parts - 1 = ap (upper G) q ∙ (top_ends G (omega arith)).2 in
             omega (arith, steps_up (row G (upper G i)) (row G G.parts) (omega (arith, R.inside i h)))),
       )
 
   -- twice the width, once the height, and a step at either end
-  pub line_most : 2 ≤ G.parts → (i : ℕ) → i < size G → line_length (points_of (courseOf G i)) ≤ most_length G.parts
-  unfolding courseOf course rankSpot
+  pub line_most : 2 ≤ G.parts → (i : ℕ) → i < size G → line_length (points_of (course_of G i)) ≤ most_length G.parts
+  unfolding course_of course rank_spot
   line_most two i h =
-      let c : Course = courseOf G i in
+      let c : Course = course_of G i in
       let x : ℕ = (columns G G.parts).count - 1 in
       let w = columns_count G R two in
       let k : c.column ≤ x = omega (arith, cable_column_below G R G.parts i) in

@@ -13,7 +13,7 @@ use Rattle.lists.proofs.Sums.{OneAt, count_each}
 use Rattle.order.specs.Graph.{StGraph, size, lower, upper}
 use Rattle.order.specs.RankedGraphs.{Ranked}
 use Rattle.layout.specs.Columns.{moved}
-use Rattle.layout.proofs.Step.{cable, part, outs, ins, outPlace, inAt, takenColumn, lefts, rights, cable_kept, part_kept, part_opened, cable_opened, out_place_one, in_at_comes, taken_column_comes}
+use Rattle.layout.proofs.Step.{cable, part, outs, ins, out_place, in_at, taken_column, lefts, rights, cable_kept, part_kept, part_opened, cable_opened, out_place_one, in_at_comes, taken_column_comes}
 use Rattle.lists.proofs.Increasing.{Increasing, increasing_one}
 use Rattle.layout.proofs.Moved.{moved_increasing, moved_at}
 use Rattle.layout.proofs.Invariant.{invariant}
@@ -25,7 +25,7 @@ module _ (G : StGraph) (H : Ranked G) where
   X k i = cable G k i
 
   abbrev P : ℕ → ℕ
-  P k = takenColumn G k
+  P k = taken_column G k
 
   abbrev A : ℕ → ℕ
   A k = lefts G k
@@ -34,11 +34,11 @@ module _ (G : StGraph) (H : Ranked G) where
   B k = rights G k
 
   -- the incoming cable whose column rank k takes
-  unfoldable pub takenCable : ℕ → ℕ
-  takenCable k = inAt G k ((ins G k - 1) / 2)
+  unfoldable pub taken_cable : ℕ → ℕ
+  taken_cable k = in_at G k ((ins G k - 1) / 2)
 
-  taken_comes : (k : ℕ) → 0 < k → k < G.parts → (takenCable k < size G) × (upper G (takenCable k) ≡ k) × (takenColumn G k ≡ cable G k (takenCable k))
-  unfolding takenCable
+  taken_comes : (k : ℕ) → 0 < k → k < G.parts → (taken_cable k < size G) × (upper G (taken_cable k) ≡ k) × (taken_column G k ≡ cable G k (taken_cable k))
+  unfolding taken_cable
   taken_comes k h l =
       let p : 0 < ins G k = comes_in G H k h l in
       let c = in_at_comes G k ((ins G k - 1) / 2) (omega arith) in
@@ -50,11 +50,11 @@ module _ (G : StGraph) (H : Ranked G) where
 
   -- In its part's column when the part is placed
 
-  pub lower_own : (k i : ℕ) → i < size G → lower G i ≡ k → (X (suc k) i ≡ part G (suc k) k) ↔ (outPlace G k i ≡ lefts G k)
+  pub lower_own : (k i : ℕ) → i < size G → lower G i ≡ k → (X (suc k) i ≡ part G (suc k) k) ↔ (out_place G k i ≡ lefts G k)
   lower_own k i h e = (λ q. omega (arith, cable_opened G H k i h e, part_opened G k), λ q. omega (arith, cable_opened G H k i h e, part_opened G k))
 
-  pub upper_own : (k i : ℕ) → i < size G → upper G i ≡ k → (X (suc k) i ≡ part G (suc k) k) ↔ (i ≡ takenCable k)
-  upper_own k i h e = (go (ℕ_discrete i (takenCable k)), back)
+  pub upper_own : (k i : ℕ) → i < size G → upper G i ≡ k → (X (suc k) i ≡ part G (suc k) k) ↔ (i ≡ taken_cable k)
+  upper_own k i h e = (go (ℕ_discrete i (taken_cable k)), back)
     where
       rise : lower G i < k
       rise = omega (arith, H.rises i h)
@@ -62,7 +62,7 @@ module _ (G : StGraph) (H : Ranked G) where
       here : k < G.parts
       here = omega (arith, H.inside i h)
 
-      t : (takenCable k < size G) × (upper G (takenCable k) ≡ k) × (P k ≡ X k (takenCable k))
+      t : (taken_cable k < size G) × (upper G (taken_cable k) ≡ k) × (P k ≡ X k (taken_cable k))
       t = taken_comes k (omega (arith, rise)) here
 
       kept : X (suc k) i ≡ moved (P k) (A k) (B k) (X k i)
@@ -71,14 +71,14 @@ module _ (G : StGraph) (H : Ranked G) where
       stands : part G (suc k) k ≡ moved (P k) (A k) (B k) (P k)
       stands = part_opened G k ∙ sym (moved_at (P k) (A k) (B k) (P k) refl)
 
-      go : Dec (i ≡ takenCable k) → X (suc k) i ≡ part G (suc k) k → i ≡ takenCable k
+      go : Dec (i ≡ taken_cable k) → X (suc k) i ≡ part G (suc k) k → i ≡ taken_cable k
       go (yes s) q = s
       go (no s) q =
-          absurd ((invariant G H k (omega (arith, here))).apart i (takenCable k) h t.0 s
-          rise (omega (arith, t.1, H.rises (takenCable k) t.0)) (omega (arith, rise, t.1)) (omega (arith, t.1, H.rises (takenCable k) t.0))
+          absurd ((invariant G H k (omega (arith, here))).apart i (taken_cable k) h t.0 s
+          rise (omega (arith, t.1, H.rises (taken_cable k) t.0)) (omega (arith, rise, t.1)) (omega (arith, t.1, H.rises (taken_cable k) t.0))
           (one_column k (X k i) (P k) (sym kept ∙ q ∙ stands) ∙ t.2))
 
-      back : i ≡ takenCable k → X (suc k) i ≡ part G (suc k) k
+      back : i ≡ taken_cable k → X (suc k) i ≡ part G (suc k) k
       back s = kept ∙ ap (λ (j : ℕ). moved (P k) (A k) (B k) (X k j)) s ∙ ap (moved (P k) (A k) (B k)) (sym t.2) ∙ sym stands
 
   -- From k ranks to l one strictly increasing map moves the parts that stand and the cables that are opened.
@@ -115,13 +115,13 @@ module _ (G : StGraph) (H : Ranked G) where
         λ q. increasing_one c.map c.rises _ _ (sym (c.cables i h o) ∙ q ∙ c.parts j g),
       )
 
-  pub lower_own_all : (i : ℕ) → i < size G → (X G.parts i ≡ part G G.parts (lower G i)) ↔ (outPlace G (lower G i) i ≡ lefts G (lower G i))
+  pub lower_own_all : (i : ℕ) → i < size G → (X G.parts i ≡ part G G.parts (lower G i)) ↔ (out_place G (lower G i) i ≡ lefts G (lower G i))
   lower_own_all i h =
       let f = own_kept (suc (lower G i)) i (lower G i) h (omega arith) (omega arith) (omega (arith, H.rises i h, H.inside i h)) in
       let g = lower_own (lower G i) i h refl in
       (λ q. g.0 (f.1 q), λ q. f.0 (g.1 q))
 
-  pub upper_own_all : (i : ℕ) → i < size G → (X G.parts i ≡ part G G.parts (upper G i)) ↔ (i ≡ takenCable (upper G i))
+  pub upper_own_all : (i : ℕ) → i < size G → (X G.parts i ≡ part G G.parts (upper G i)) ↔ (i ≡ taken_cable (upper G i))
   upper_own_all i h =
       let f = own_kept (suc (upper G i)) i (upper G i) h (omega (arith, H.rises i h)) (omega arith) (omega (arith, H.inside i h)) in
       let g = upper_own (upper G i) i h refl in
@@ -147,7 +147,7 @@ module _ (G : StGraph) (H : Ranked G) where
         keyed = g.1;
         passes = eq-eqb _ _ ((lower_own_all (out_at G k (A k)) g.0).1 (rw g.1 (out_place_out_at G k (A k) l)));
         only = λ i u e q.
-            let r : outPlace G k i ≡ A k = subst (λ (z : ℕ). outPlace G z i ≡ A z) e ((lower_own_all i u).0 (eqb-true _ _ q)) in
+            let r : out_place G k i ≡ A k = subst (λ (z : ℕ). out_place G z i ≡ A z) e ((lower_own_all i u).0 (eqb-true _ _ q)) in
             out_place_one G k i (out_at G k (A k)) u g.0 e g.1 (r ∙ sym (out_place_out_at G k (A k) l));
       }
 
@@ -156,11 +156,11 @@ module _ (G : StGraph) (H : Ranked G) where
   one_upper k h =
       let t = taken_comes (suc k) (omega arith) h in
       record {
-        one = takenCable (suc k);
+        one = taken_cable (suc k);
         below = t.0;
         keyed = omega arith;
-        passes = eq-eqb _ _ ((upper_own_all (takenCable (suc k)) t.0).1 (ap takenCable (sym t.1)));
-        only = λ i u e q. (upper_own_all i u).0 (eqb-true _ _ q) ∙ ap takenCable (omega (arith, H.rises i u));
+        passes = eq-eqb _ _ ((upper_own_all (taken_cable (suc k)) t.0).1 (ap taken_cable (sym t.1)));
+        only = λ i u e q. (upper_own_all i u).0 (eqb-true _ _ q) ∙ ap taken_cable (omega (arith, H.rises i u));
       }
 
   -- so a rank's only outgoing cable stands in its column, and its only incoming one

@@ -93,14 +93,14 @@ module _ (ins outs : ℕ) (four : ins + outs ≤ 4) where
       )
 
   -- the port of the outgoing cable at place j tells its place
-  pub out_place : (j : ℕ) → j < outs → port_column 0 (new_left (out_ports ins outs)) (get_or (out_ports ins outs) j above) ≡ j
-  out_place j h =
+  pub out_place_lem : (j : ℕ) → j < outs → port_column 0 (new_left (out_ports ins outs)) (get_or (out_ports ins outs) j above) ≡ j
+  out_place_lem j h =
       let b : j < length (out_ports ins outs) = omega (arith, all_out) in
       omega (arith, get_d_map (port_column 0 (new_left (out_ports ins outs))) (out_ports ins outs) j above 0 b, port_column_lem 0 j h)
 
   -- and so does that of the incoming cable at place q
-  pub in_place : (q : ℕ) → q < ins → port_number (get_or (in_ports ins) q below) ≡ 1 - (ins - 1) / 2 + q
-  in_place q h =
+  pub in_place_lem : (q : ℕ) → q < ins → port_number (get_or (in_ports ins) q below) ≡ 1 - (ins - 1) / 2 + q
+  in_place_lem q h =
       let b : q < length (in_ports ins) = omega (arith, all_in) in
       sym (get_d_map port_number (in_ports ins) q below 0 b) ∙ ap (λ (l : List ℕ). get_or l q 0) (shown ins outs four).comes ∙ get_d_up_from _ ins q 0 h
 

@@ -29,14 +29,14 @@ use Rattle.drawing.specs.Drawing.{Route, spot_of, route_points, cross_pair, cros
 use Rattle.drawing.specs.Alike.{SameDrawing}
 use Rattle.drawing.proofs.Pairs.{crossings_pairs, cross_either}
 use Rattle.layout.specs.Ports.{in_ports, out_ports, place_below, new_left, new_right}
-use Rattle.layout.specs.Columns.{Columns, moved, bottomLine, topLine, byRank, byColumn, outgoing, incoming, taken, step, columns}
-use Rattle.layout.specs.Points.{bottomRows, topRows, row, partSpot, course, rankSpot, courseOf}
+use Rattle.layout.specs.Columns.{Columns, moved, bottom_line, top_line, by_rank, by_column, outgoing, incoming, taken, step, columns}
+use Rattle.layout.specs.Points.{bottom_rows, top_rows, row, part_spot, course, rank_spot, course_of}
 use Rattle.layout.specs.Layout.{drawn_in, layout}
 use Rattle.layout.proofs.EndLines.{lines_at_e, lines_at_i, distinct_lines_at, bottom_ends, top_ends}
-use Rattle.layout.proofs.Step.{cable, outs, ins, outPlace, takenColumn, lefts, rights, cable_start, cable_opened, cable_kept, outgoing_e, incoming_e}
+use Rattle.layout.proofs.Step.{cable, outs, ins, out_place, taken_column, lefts, rights, cable_start, cable_opened, cable_kept, outgoing_e, incoming_e}
 use Rattle.layout.proofs.Invariant.{invariant}
 use Rattle.layout.proofs.ByLine.{lines_rise, bottom_lowest, top_lowest}
-use Rattle.layout.proofs.Drawn.{routeOf, routes_are}
+use Rattle.layout.proofs.Drawn.{route_of, routes_are}
 
 -- The lowest line of a kind is named by the lowest line of the other kind, where names keep the sequence of lines of a kind
 same_line :
@@ -77,8 +77,8 @@ same_line m π P Q a b below onto to from pa la qb lb rises x h = same_test (eqb
 -- the columns of the ranks once rank k stands
 ranks_next :
     (G : StGraph) (k : ℕ)
-    → (columns G (suc k)).parts ≡ map (moved (takenColumn G k) (lefts G k) (rights G k)) (columns G k).parts ++ (takenColumn G k + lefts G k) ∷ []
-unfolding columns step takenColumn lefts rights ins outs
+    → (columns G (suc k)).parts ≡ map (moved (taken_column G k) (lefts G k) (rights G k)) (columns G k).parts ++ (taken_column G k + lefts G k) ∷ []
+unfolding columns step taken_column lefts rights ins outs
 ranks_next G k = refl
 
 -- The column of the cable from below, of cables under other names
@@ -136,12 +136,12 @@ module _ (G H : StGraph) (parts : H.parts ≡ G.parts) (sizes : size H ≡ size 
 
   -- The bottom and the top connection
 
-  bottom_same : (i : ℕ) → i < size G → eqb (bottomLine H) (π i) ≡ eqb (bottomLine G) i
+  bottom_same : (i : ℕ) → i < size G → eqb (bottom_line H) (π i) ≡ eqb (bottom_line G) i
   bottom_same =
       same_line (size G) π
       (λ x. (length (lines_at (size G) (lower G) 0) ≡ 4) × (lower G x ≡ 0) × (upper G x ≡ 1))
       (λ x. (length (lines_at (size H) (lower H) 0) ≡ 4) × (lower H x ≡ 0) × (upper H x ≡ 1))
-      (bottomLine G) (bottomLine H) M.below M.onto
+      (bottom_line G) (bottom_line H) M.below M.onto
       (λ x h p. (lowers_count 0 ∙ p.0, M.first x h ∙ p.1, M.second x h ∙ p.2))
       (λ x h p. (sym (lowers_count 0) ∙ p.0, sym (M.first x h) ∙ p.1, sym (M.second x h) ∙ p.2))
       (λ h. bottom_ends G h) (λ x h p. bottom_lowest G p.0 x h p.1 p.2)
@@ -151,12 +151,12 @@ module _ (G H : StGraph) (parts : H.parts ≡ G.parts) (sizes : size H ≡ size 
   last_count : length (lines_at (size H) (upper H) (H.parts - 1)) ≡ length (lines_at (size G) (upper G) (G.parts - 1))
   last_count = ap (λ (n : ℕ). length (lines_at (size H) (upper H) (n - 1))) parts ∙ uppers_count (G.parts - 1)
 
-  top_same : (i : ℕ) → i < size G → eqb (topLine H) (π i) ≡ eqb (topLine G) i
+  top_same : (i : ℕ) → i < size G → eqb (top_line H) (π i) ≡ eqb (top_line G) i
   top_same =
       same_line (size G) π
       (λ x. (length (lines_at (size G) (upper G) (G.parts - 1)) ≡ 4) × (lower G x ≡ G.parts - 2) × (upper G x ≡ G.parts - 1))
       (λ x. (length (lines_at (size H) (upper H) (H.parts - 1)) ≡ 4) × (lower H x ≡ H.parts - 2) × (upper H x ≡ H.parts - 1))
-      (topLine G) (topLine H) M.below M.onto
+      (top_line G) (top_line H) M.below M.onto
       (λ x h p. (last_count ∙ p.0, omega (arith, M.first x h, p.1, parts), omega (arith, M.second x h, p.2, parts)))
       (λ x h p. (sym last_count ∙ p.0, omega (arith, M.first x h, p.1, parts), omega (arith, M.second x h, p.2, parts)))
       (λ h. top_ends G h) (λ x h p. top_lowest G p.0 x h p.1 p.2)
@@ -165,8 +165,8 @@ module _ (G H : StGraph) (parts : H.parts ≡ G.parts) (sizes : size H ≡ size 
 
   -- The outgoing cables
 
-  by_rank_same : (k : ℕ) → byRank H k ≡ map π (byRank G k)
-  unfolding byRank
+  by_rank_same : (k : ℕ) → by_rank H k ≡ map π (by_rank G k)
+  unfolding by_rank
   by_rank_same k =
       ap (λ (m : ℕ). sort_by (upper H) (lines_at m (lower H) k)) sizes
       ∙ lines_sorted (size G) π M (lower G) (lower H) M.first (upper G) (upper H) k
@@ -177,15 +177,15 @@ module _ (G H : StGraph) (parts : H.parts ≡ G.parts) (sizes : size H ≡ size 
             M.rises i j (p.lower q) g (a ∙ sym b) q;
       })
 
-  by_rank_e : {i : ℕ} (k : ℕ) → Memᴰ i (byRank G k) → i < size G
-  unfolding byRank
+  by_rank_e : {i : ℕ} (k : ℕ) → Memᴰ i (by_rank G k) → i < size G
+  unfolding by_rank
   by_rank_e k n = (lines_at_e (size G) (lower G) k (sort_by_e (upper G) (lines_at (size G) (lower G) k) n)).0
 
   outgoing_same : (k : ℕ) → outgoing H k ≡ map π (outgoing G k)
   unfolding outgoing
   outgoing_same k =
-      ap (lastly (bottomLine H)) (by_rank_same k)
-      ∙ lastly_renamed π (bottomLine G) (bottomLine H) (byRank G k) (λ x n. bottom_same x (by_rank_e k n))
+      ap (lastly (bottom_line H)) (by_rank_same k)
+      ∙ lastly_renamed π (bottom_line G) (bottom_line H) (by_rank G k) (λ x n. bottom_same x (by_rank_e k n))
 
   outs_same : (k : ℕ) → outs H k ≡ outs G k
   unfolding outs
@@ -199,8 +199,8 @@ module _ (G H : StGraph) (parts : H.parts ≡ G.parts) (sizes : size H ≡ size 
   line_same i j h g =
       same_test (eqb (π i) (π j)) (eqb i j) (λ t. eq-eqb i j (M.one i j h g (eqb-true (π i) (π j) t))) (λ t. eq-eqb (π i) (π j) (ap π (eqb-true i j t)))
 
-  out_place_same : (k i : ℕ) → i < size G → outPlace H k (π i) ≡ outPlace G k i
-  unfolding outPlace
+  out_place_same : (k i : ℕ) → i < size G → out_place H k (π i) ≡ out_place G k i
+  unfolding out_place
   out_place_same k i h =
       ap (index_of (π i)) (outgoing_same k)
       ∙ index_of_renamed π i (π i) (outgoing G k) (λ x n. line_same i x h (outgoing_e G k n).0)
@@ -215,12 +215,12 @@ module _ (G H : StGraph) (parts : H.parts ≡ G.parts) (sizes : size H ≡ size 
 
   -- Rows
 
-  bottom_rows_same : bottomRows H ≡ bottomRows G
-  unfolding bottomRows
+  bottom_rows_same : bottom_rows H ≡ bottom_rows G
+  unfolding bottom_rows
   bottom_rows_same = ap (λ (n : ℕ). one_if (eqb n 4)) (lowers_count 0)
 
-  top_rows_same : topRows H ≡ topRows G
-  unfolding topRows
+  top_rows_same : top_rows H ≡ top_rows G
+  unfolding top_rows
   top_rows_same = ap (λ (n : ℕ). one_if (eqb n 4)) last_count
 
   row_same : (k : ℕ) → row H k ≡ row G k
@@ -240,8 +240,8 @@ module _ (G H : StGraph) (parts : H.parts ≡ G.parts) (sizes : size H ≡ size 
     start = record { ranks = refl; cables = λ i h. cable_start H (π i) (omega (arith, M.below i h)) ∙ sym (cable_start G i h) }
 
     module _ (k : ℕ) (inside : k ≤ G.parts) (A : SameColumns k) where
-      by_column_same : byColumn H (columns H k).cables k ≡ map π (byColumn G (columns G k).cables k)
-      unfolding byColumn cable
+      by_column_same : by_column H (columns H k).cables k ≡ map π (by_column G (columns G k).cables k)
+      unfolding by_column cable
       by_column_same =
           ap (λ (m : ℕ). sort_by (λ i. get_or (columns H k).cables i 0) (lines_at m (upper H) k)) sizes
           ∙ lines_sorted (size G) π M (upper G) (upper H) M.second (λ i. get_or (columns G k).cables i 0) (λ i. get_or (columns H k).cables i 0) k
@@ -254,18 +254,18 @@ module _ (G H : StGraph) (parts : H.parts ≡ G.parts) (sizes : size H ≡ size 
                 (omega (arith, R.rises i h)) (omega (arith, R.rises j g)) (omega (arith, R.rises i h)) (omega (arith, R.rises j g)) q);
           })
 
-      by_column_e : {i : ℕ} → Memᴰ i (byColumn G (columns G k).cables k) → i < size G
-      unfolding byColumn
+      by_column_e : {i : ℕ} → Memᴰ i (by_column G (columns G k).cables k) → i < size G
+      unfolding by_column
       by_column_e n = (lines_at_e (size G) (upper G) k (sort_by_e (λ i. get_or (columns G k).cables i 0) (lines_at (size G) (upper G) k) n)).0
 
       incoming_same : incoming H (columns H k).cables k ≡ map π (incoming G (columns G k).cables k)
       unfolding incoming
       incoming_same =
-          ap (lastly (topLine H)) by_column_same
-          ∙ lastly_renamed π (topLine G) (topLine H) (byColumn G (columns G k).cables k) (λ x n. top_same x (by_column_e n))
+          ap (lastly (top_line H)) by_column_same
+          ∙ lastly_renamed π (top_line G) (top_line H) (by_column G (columns G k).cables k) (λ x n. top_same x (by_column_e n))
 
-      taken_same : takenColumn H k ≡ takenColumn G k
-      unfolding takenColumn taken cable
+      taken_same : taken_column H k ≡ taken_column G k
+      unfolding taken_column taken cable
       taken_same =
           taken_renamed π (λ i. get_or (columns G k).cables i 0) (λ i. get_or (columns H k).cables i 0) (incoming G (columns G k).cables k)
           (incoming H (columns H k).cables k) incoming_same (λ x n. A.cables x (incoming_e G (columns G k).cables k n).0)
@@ -298,8 +298,8 @@ module _ (G H : StGraph) (parts : H.parts ≡ G.parts) (sizes : size H ≡ size 
     all : SameColumns G.parts
     all = alike G.parts (omega arith)
 
-    spot_same : (k : ℕ) → rankSpot H k ≡ rankSpot G k
-    unfolding rankSpot partSpot
+    spot_same : (k : ℕ) → rank_spot H k ≡ rank_spot G k
+    unfolding rank_spot part_spot
     spot_same k =
         ap₂ spot_at (ap (λ (c : Columns). get_or c.parts k 0) final ∙ ap (λ (l : List ℕ). get_or l k 0) all.ranks) (row_same k)
 
@@ -307,28 +307,28 @@ module _ (G H : StGraph) (parts : H.parts ≡ G.parts) (sizes : size H ≡ size 
     unfolding cable
     column_same i h = ap (λ (c : Columns). get_or c.cables (π i) 0) final ∙ all.cables i h
 
-    low_same : (i : ℕ) → i < size G → cond (eqb (π i) (bottomLine H)) 0 (row H (lower H (π i))) ≡ cond (eqb i (bottomLine G)) 0 (row G (lower G i))
+    low_same : (i : ℕ) → i < size G → cond (eqb (π i) (bottom_line H)) 0 (row H (lower H (π i))) ≡ cond (eqb i (bottom_line G)) 0 (row G (lower G i))
     low_same i h =
-        ap₂ (λ (b : Bool) (r : ℕ). cond b 0 r) (eqb_sym (π i) (bottomLine H) ∙ bottom_same i h ∙ eqb_sym (bottomLine G) i)
+        ap₂ (λ (b : Bool) (r : ℕ). cond b 0 r) (eqb_sym (π i) (bottom_line H) ∙ bottom_same i h ∙ eqb_sym (bottom_line G) i)
         (ap (row H) (M.first i h) ∙ row_same (lower G i))
 
     high_same : (i : ℕ) → i < size G
-        → cond (eqb (π i) (topLine H)) (row H H.parts) (row H (upper H (π i))) ≡ cond (eqb i (topLine G)) (row G G.parts) (row G (upper G i))
+        → cond (eqb (π i) (top_line H)) (row H H.parts) (row H (upper H (π i))) ≡ cond (eqb i (top_line G)) (row G G.parts) (row G (upper G i))
     high_same i h =
-        rw (eqb_sym (π i) (topLine H) ∙ top_same i h ∙ eqb_sym (topLine G) i, ap (row H) parts ∙ row_same G.parts, ap (row H) (M.second i h) ∙ row_same (upper G i))
+        rw (eqb_sym (π i) (top_line H) ∙ top_same i h ∙ eqb_sym (top_line G) i, ap (row H) parts ∙ row_same G.parts, ap (row H) (M.second i h) ∙ row_same (upper G i))
 
-    course_same : (i : ℕ) → i < size G → courseOf H (π i) ≡ courseOf G i
-    unfolding courseOf course rankSpot
+    course_same : (i : ℕ) → i < size G → course_of H (π i) ≡ course_of G i
+    unfolding course_of course rank_spot
     course_same i h =
         rw (
-          ap (rankSpot H) (M.first i h) ∙ spot_same (lower G i),
+          ap (rank_spot H) (M.first i h) ∙ spot_same (lower G i),
           low_same i h,
           column_same i h,
           high_same i h,
-          ap (rankSpot H) (M.second i h) ∙ spot_same (upper G i),
+          ap (rank_spot H) (M.second i h) ∙ spot_same (upper G i),
         )
 
-    route_same : (i : ℕ) → i < size G → routeOf H (π i) ≡ routeOf G i
+    route_same : (i : ℕ) → i < size G → route_of H (π i) ≡ route_of G i
     route_same i h = rw (M.first i h, M.second i h, course_same i h)
 
     -- The drawing
@@ -342,40 +342,40 @@ module _ (G H : StGraph) (parts : H.parts ≡ G.parts) (sizes : size H ≡ size 
     height_same = rw (bottom_rows_same, top_rows_same, parts)
 
     spots_same : (layout H).parts ≡ (layout G).parts
-    unfolding layout drawn_in rankSpot
+    unfolding layout drawn_in rank_spot
     spots_same =
-        ap (λ (n : ℕ). tabulate n (partSpot H (columns H H.parts))) parts
-        ∙ tabulate_same G.parts (partSpot H (columns H H.parts)) (partSpot G (columns G G.parts)) (λ k h. spot_same k)
+        ap (λ (n : ℕ). tabulate n (part_spot H (columns H H.parts))) parts
+        ∙ tabulate_same G.parts (part_spot H (columns H H.parts)) (part_spot G (columns G G.parts)) (λ k h. spot_same k)
 
     -- two routes cross alike
     cross_same : (r q : Route) → cross_pair (layout H) r q ≡ cross_pair (layout G) r q
     unfolding cross_pair route_points spot_of
     cross_same r q = rw spots_same
 
-    crossings_counted : (K : StGraph) → crossings (layout K) ≡ pair_count (λ i j. cross_pair (layout K) (routeOf K i) (routeOf K j)) (range (size K))
+    crossings_counted : (K : StGraph) → crossings (layout K) ≡ pair_count (λ i j. cross_pair (layout K) (route_of K i) (route_of K j)) (range (size K))
     unfolding crossings tabulate
     crossings_counted K =
-        ap (crossings_of (layout K)) (routes_are K) ∙ crossings_pairs (layout K) (map (routeOf K) (range (size K)))
-        ∙ pairs_map (cross_pair (layout K)) (routeOf K) (range (size K))
+        ap (crossings_of (layout K)) (routes_are K) ∙ crossings_pairs (layout K) (map (route_of K) (range (size K)))
+        ∙ pairs_map (cross_pair (layout K)) (route_of K) (range (size K))
 
     crossings_same : crossings (layout H) ≡ crossings (layout G)
     crossings_same =
         crossings_counted H
-        ∙ ap (λ (m : ℕ). pair_count (λ i j. cross_pair (layout H) (routeOf H i) (routeOf H j)) (range m)) sizes
+        ∙ ap (λ (m : ℕ). pair_count (λ i j. cross_pair (layout H) (route_of H i) (route_of H j)) (range m)) sizes
         ∙ pairs_renamed (size G) π M.below M.one M.onto
-        (λ i j. cross_pair (layout G) (routeOf G i) (routeOf G j)) (λ i j. cross_pair (layout H) (routeOf H i) (routeOf H j))
-        (λ x y. cross_either (layout H) (routeOf H x) (routeOf H y))
-        (λ i j h g. ap₂ (cross_pair (layout H)) (route_same i h) (route_same j g) ∙ cross_same (routeOf G i) (routeOf G j))
+        (λ i j. cross_pair (layout G) (route_of G i) (route_of G j)) (λ i j. cross_pair (layout H) (route_of H i) (route_of H j))
+        (λ x y. cross_either (layout H) (route_of H x) (route_of H y))
+        (λ i j h g. ap₂ (cross_pair (layout H)) (route_same i h) (route_same j g) ∙ cross_same (route_of G i) (route_of G j))
         ∙ sym (crossings_counted G)
 
     -- each route is there as often
-    routes_counted : (K : StGraph) (p : Route → Bool) → count p (layout K).routes ≡ count (λ i. p (routeOf K i)) (range (size K))
-    routes_counted K p = ap (count p) (routes_are K) ∙ count_tabulate p (size K) (routeOf K)
+    routes_counted : (K : StGraph) (p : Route → Bool) → count p (layout K).routes ≡ count (λ i. p (route_of K i)) (range (size K))
+    routes_counted K p = ap (count p) (routes_are K) ∙ count_tabulate p (size K) (route_of K)
 
     routes_same : (p : Route → Bool) → count p (layout H).routes ≡ count p (layout G).routes
     routes_same p =
-        routes_counted H p ∙ ap (λ (m : ℕ). count (λ i. p (routeOf H i)) (range m)) sizes
-        ∙ count_renamed (size G) π M.below M.one M.onto (λ i. p (routeOf G i)) (λ i. p (routeOf H i)) (λ i h. ap p (route_same i h))
+        routes_counted H p ∙ ap (λ (m : ℕ). count (λ i. p (route_of H i)) (range m)) sizes
+        ∙ count_renamed (size G) π M.below M.one M.onto (λ i. p (route_of G i)) (λ i. p (route_of H i)) (λ i h. ap p (route_same i h))
         ∙ sym (routes_counted G p)
 
     relabelled : SameDrawing (layout G) (layout H)

@@ -17,9 +17,9 @@ use Rattle.lists.proofs.Tests.{one_if_le}
 use Rattle.lists.proofs.Sums.{count_not, sum_ext, sum_add, sum_one_if}
 use Rattle.order.specs.Graph.{StGraph, size, lower, upper, EndsOnce}
 use Rattle.order.specs.RankedGraphs.{Ranked}
-use Rattle.layout.specs.Columns.{bottomLine, topLine, columns}
+use Rattle.layout.specs.Columns.{bottom_line, top_line, columns}
 use Rattle.geometry.specs.Spots.{Spot}
-use Rattle.layout.specs.Points.{Course, turns, points_of, corners_of, bottomRows, topRows, row, partSpot, course, rankSpot, courseOf}
+use Rattle.layout.specs.Points.{Course, turns, points_of, corners_of, bottom_rows, top_rows, row, part_spot, course, rank_spot, course_of}
 use Rattle.layout.proofs.EndLines.{bottom_ends, top_ends}
 use Rattle.layout.proofs.Step.{cable, part, width}
 use Rattle.layout.proofs.Width.{width_all, cable_below, part_below, reached}
@@ -77,15 +77,15 @@ module _ (G : StGraph) (H : Ranked G) where
 
   -- The lanes of a course
 
-  low_le : (i : ℕ) → (courseOf G i).low ≤ row G (lower G i)
-  unfolding courseOf course
-  low_le i = lane_le (eqb i (bottomLine G)) (row G (lower G i))
+  low_le : (i : ℕ) → (course_of G i).low ≤ row G (lower G i)
+  unfolding course_of course
+  low_le i = lane_le (eqb i (bottom_line G)) (row G (lower G i))
 
-  high_ge : (i : ℕ) → i < size G → row G (upper G i) ≤ (courseOf G i).high
-  unfolding courseOf course row
-  high_ge i h = lane_ge (eqb i (topLine G)) (row G G.parts) (row G (upper G i)) (omega (arith, H.inside i h))
+  high_ge : (i : ℕ) → i < size G → row G (upper G i) ≤ (course_of G i).high
+  unfolding course_of course row
+  high_ge i h = lane_ge (eqb i (top_line G)) (row G G.parts) (row G (upper G i)) (omega (arith, H.inside i h))
 
-  pub rising : (i : ℕ) → i < size G → (courseOf G i).low < (courseOf G i).high
+  pub rising : (i : ℕ) → i < size G → (course_of G i).low < (course_of G i).high
   unfolding row
   rising i h = omega (arith, low_le i, high_ge i h, H.rises i h)
 
@@ -93,33 +93,33 @@ module _ (G : StGraph) (H : Ranked G) where
   -- connection, one for the top connection.
   pub corners_one :
       (i : ℕ) → i < size G
-      → length (corners_of (courseOf G i))
+      → length (corners_of (course_of G i))
       ≡ differs (get_or (columns G G.parts).cables i 0) (get_or (columns G G.parts).parts (lower G i) 0)
       + differs (get_or (columns G G.parts).cables i 0) (get_or (columns G G.parts).parts (upper G i) 0)
-      + one_if (eqb i (bottomLine G))
-      + one_if (eqb i (topLine G))
-  unfolding courseOf course partSpot row
+      + one_if (eqb i (bottom_line G))
+      + one_if (eqb i (top_line G))
+  unfolding course_of course part_spot row
   corners_one i h =
-      let b = differs_lane (eqb i (bottomLine G)) 0 (row G (lower G i)) (λ e q. omega (arith, bottom_row G H (omega (arith, eqb-true i (bottomLine G) e)))) in
-      let t = differs_lane (eqb i (topLine G)) (row G G.parts) (row G (upper G i)) (λ e q. omega (arith, H.inside i h)) in
-      omega (arith, length_corners (courseOf G i) (λ e. omega (arith, rising i h)), b, t)
+      let b = differs_lane (eqb i (bottom_line G)) 0 (row G (lower G i)) (λ e q. omega (arith, bottom_row G H (omega (arith, eqb-true i (bottom_line G) e)))) in
+      let t = differs_lane (eqb i (top_line G)) (row G G.parts) (row G (upper G i)) (λ e q. omega (arith, H.inside i h)) in
+      omega (arith, length_corners (course_of G i) (λ e. omega (arith, rising i h)), b, t)
 
-  pub corners_four : (i : ℕ) → i < size G → length (corners_of (courseOf G i)) ≤ 4
+  pub corners_four : (i : ℕ) → i < size G → length (corners_of (course_of G i)) ≤ 4
   corners_four i h =
       omega (
         arith,
         corners_one i h,
         differs_le (get_or (columns G G.parts).cables i 0) (get_or (columns G G.parts).parts (lower G i) 0),
         differs_le (get_or (columns G G.parts).cables i 0) (get_or (columns G G.parts).parts (upper G i) 0),
-        one_if_le (eqb i (bottomLine G)),
-        one_if_le (eqb i (topLine G)),
+        one_if_le (eqb i (bottom_line G)),
+        one_if_le (eqb i (top_line G)),
       )
 
   -- 'at most two cables have more than two': only the bottom and the top connection can
-  pub corners_which : (i : ℕ) → i < size G → 2 < length (corners_of (courseOf G i)) → (i ≡ bottomLine G) ⊎ (i ≡ topLine G)
-  corners_which i h l = go (ℕ_discrete i (bottomLine G)) (ℕ_discrete i (topLine G))
+  pub corners_which : (i : ℕ) → i < size G → 2 < length (corners_of (course_of G i)) → (i ≡ bottom_line G) ⊎ (i ≡ top_line G)
+  corners_which i h l = go (ℕ_discrete i (bottom_line G)) (ℕ_discrete i (top_line G))
     where
-      go : Dec (i ≡ bottomLine G) → Dec (i ≡ topLine G) → (i ≡ bottomLine G) ⊎ (i ≡ topLine G)
+      go : Dec (i ≡ bottom_line G) → Dec (i ≡ top_line G) → (i ≡ bottom_line G) ⊎ (i ≡ top_line G)
       go (yes e) f = inl e
       go (no e) (yes f) = inr f
       go (no e) (no f) =
@@ -129,23 +129,23 @@ module _ (G : StGraph) (H : Ranked G) where
             corners_one i h,
             differs_le (get_or (columns G G.parts).cables i 0) (get_or (columns G G.parts).parts (lower G i) 0),
             differs_le (get_or (columns G G.parts).cables i 0) (get_or (columns G G.parts).parts (upper G i) 0),
-            ap one_if (ne_eqb i (bottomLine G) e),
-            ap one_if (ne_eqb i (topLine G) f),
+            ap one_if (ne_eqb i (bottom_line G) e),
+            ap one_if (ne_eqb i (top_line G) f),
           ))
 
   -- they are two: where there are three parts, no cable goes both from the lowest rank and to the highest of two neighbours
-  connections_differ : 3 ≤ G.parts → (i : ℕ) → i < size G → one_if (eqb i (bottomLine G)) + one_if (eqb i (topLine G)) ≤ 1
-  connections_differ three i h = go (ℕ_discrete i (bottomLine G)) (ℕ_discrete i (topLine G))
+  connections_differ : 3 ≤ G.parts → (i : ℕ) → i < size G → one_if (eqb i (bottom_line G)) + one_if (eqb i (top_line G)) ≤ 1
+  connections_differ three i h = go (ℕ_discrete i (bottom_line G)) (ℕ_discrete i (top_line G))
     where
-      go : Dec (i ≡ bottomLine G) → Dec (i ≡ topLine G) → one_if (eqb i (bottomLine G)) + one_if (eqb i (topLine G)) ≤ 1
+      go : Dec (i ≡ bottom_line G) → Dec (i ≡ top_line G) → one_if (eqb i (bottom_line G)) + one_if (eqb i (top_line G)) ≤ 1
       go (yes e) (yes f) =
           let b = bottom_ends G (omega arith) in
           let t = top_ends G (omega arith) in
           absurd (omega (arith, ap (lower G) e ∙ b.1, ap (lower G) f ∙ t.1))
-      go (yes e) (no f) = omega (arith, one_if_le (eqb i (bottomLine G)), ap one_if (ne_eqb i (topLine G) f))
-      go (no e) f = omega (arith, one_if_le (eqb i (topLine G)), ap one_if (ne_eqb i (bottomLine G) e))
+      go (yes e) (no f) = omega (arith, one_if_le (eqb i (bottom_line G)), ap one_if (ne_eqb i (top_line G) f))
+      go (no e) f = omega (arith, one_if_le (eqb i (top_line G)), ap one_if (ne_eqb i (bottom_line G) e))
 
-  pub corners_three : 3 ≤ G.parts → (i : ℕ) → i < size G → length (corners_of (courseOf G i)) ≤ 3
+  pub corners_three : 3 ≤ G.parts → (i : ℕ) → i < size G → length (corners_of (course_of G i)) ≤ 3
   corners_three three i h =
       omega (
         arith,
@@ -164,7 +164,7 @@ module _ (G : StGraph) (H : Ranked G) where
     at k = get_or (columns G G.parts).parts k 0
 
     -- rank 1 has one incoming cable and stands in its column, so that the bottom connection turns in row 0 alone
-    bottom_straight : i ≡ bottomLine G → (upper G i ≡ 1) × (differs x (at (upper G i)) ≡ 0)
+    bottom_straight : i ≡ bottom_line G → (upper G i ≡ 1) × (differs x (at (upper G i)) ≡ 0)
     unfolding cable part
     bottom_straight e =
         let b = bottom_ends G (omega arith) in
@@ -173,7 +173,7 @@ module _ (G : StGraph) (H : Ranked G) where
         (u, differs_none x (at (upper G i)) (only_in G H i h (λ j g q. O.lowest i j h g l u (omega (arith, H.rises j g)) (q ∙ u))))
 
     -- rank n - 2 has one outgoing cable, which keeps its column, so that the top connection turns in the top row alone
-    top_straight : i ≡ topLine G → (suc (upper G i) ≡ G.parts) × (differs x (at (lower G i)) ≡ 0)
+    top_straight : i ≡ top_line G → (suc (upper G i) ≡ G.parts) × (differs x (at (lower G i)) ≡ 0)
     unfolding cable part
     top_straight e =
         let t = top_ends G (omega arith) in
@@ -183,10 +183,10 @@ module _ (G : StGraph) (H : Ranked G) where
           differs_none x (at (lower G i)) (only_out G H i h (λ j g q. O.highest i j h g l u (q ∙ l) (omega (arith, H.rises j g, H.inside j g)))),
         )
 
-    pub corners_two : length (corners_of (courseOf G i)) ≤ 2
-    corners_two = go (ℕ_discrete i (bottomLine G)) (ℕ_discrete i (topLine G))
+    pub corners_two : length (corners_of (course_of G i)) ≤ 2
+    corners_two = go (ℕ_discrete i (bottom_line G)) (ℕ_discrete i (top_line G))
       where
-        c : length (corners_of (courseOf G i)) ≡ differs x (at (lower G i)) + differs x (at (upper G i)) + one_if (eqb i (bottomLine G)) + one_if (eqb i (topLine G))
+        c : length (corners_of (course_of G i)) ≡ differs x (at (lower G i)) + differs x (at (upper G i)) + one_if (eqb i (bottom_line G)) + one_if (eqb i (top_line G))
         c = corners_one i h
 
         l : differs x (at (lower G i)) ≤ 1
@@ -195,58 +195,58 @@ module _ (G : StGraph) (H : Ranked G) where
         u : differs x (at (upper G i)) ≤ 1
         u = differs_le x (at (upper G i))
 
-        go : Dec (i ≡ bottomLine G) → Dec (i ≡ topLine G) → length (corners_of (courseOf G i)) ≤ 2
+        go : Dec (i ≡ bottom_line G) → Dec (i ≡ top_line G) → length (corners_of (course_of G i)) ≤ 2
         go (yes e) (yes f) = absurd (omega (arith, (bottom_straight e).0, (top_straight f).0))
-        go (yes e) (no f) = omega (arith, c, l, (bottom_straight e).1, one_if_le (eqb i (bottomLine G)), ap one_if (ne_eqb i (topLine G) f))
-        go (no e) (yes f) = omega (arith, c, u, (top_straight f).1, one_if_le (eqb i (topLine G)), ap one_if (ne_eqb i (bottomLine G) e))
-        go (no e) (no f) = omega (arith, c, l, u, ap one_if (ne_eqb i (bottomLine G) e), ap one_if (ne_eqb i (topLine G) f))
+        go (yes e) (no f) = omega (arith, c, l, (bottom_straight e).1, one_if_le (eqb i (bottom_line G)), ap one_if (ne_eqb i (top_line G) f))
+        go (no e) (yes f) = omega (arith, c, u, (top_straight f).1, one_if_le (eqb i (top_line G)), ap one_if (ne_eqb i (bottom_line G) e))
+        go (no e) (no f) = omega (arith, c, l, u, ap one_if (ne_eqb i (bottom_line G) e), ap one_if (ne_eqb i (top_line G) f))
 
   -- Every spot is inside the sheet.
 
   abbrev Within : Spot → Type 0
-  Within s = (s.x < (columns G G.parts).count) × (s.y < G.parts + bottomRows G + topRows G)
+  Within s = (s.x < (columns G G.parts).count) × (s.y < G.parts + bottom_rows G + top_rows G)
 
   pub spots_within :
       (k : ℕ) → k < G.parts
-      → ((rankSpot G k).x < (columns G G.parts).count) × ((rankSpot G k).y < G.parts + bottomRows G + topRows G)
-  unfolding rankSpot partSpot row
+      → ((rank_spot G k).x < (columns G G.parts).count) × ((rank_spot G k).y < G.parts + bottom_rows G + top_rows G)
+  unfolding rank_spot part_spot row
   spots_within k h = (part_column_below G.parts k h, omega arith)
 
-  pub high_below : (i : ℕ) → i < size G → (courseOf G i).high < G.parts + bottomRows G + topRows G
-  unfolding courseOf course row
-  high_below i h = go (eqb i (topLine G)) refl
+  pub high_below : (i : ℕ) → i < size G → (course_of G i).high < G.parts + bottom_rows G + top_rows G
+  unfolding course_of course row
+  high_below i h = go (eqb i (top_line G)) refl
     where
       go :
-          (b : Bool) → eqb i (topLine G) ≡ b
-          → cond b (row G G.parts) (row G (upper G i)) < G.parts + bottomRows G + topRows G
-      go true e = omega (arith, top_row G H (omega (arith, eqb-true i (topLine G) e)))
+          (b : Bool) → eqb i (top_line G) ≡ b
+          → cond b (row G G.parts) (row G (upper G i)) < G.parts + bottom_rows G + top_rows G
+      go true e = omega (arith, top_row G H (omega (arith, eqb-true i (top_line G) e)))
       go false e = omega (arith, H.inside i h)
 
   pub points_within :
-      (i : ℕ) → i < size G → (s : Spot) → Memᴰ s (points_of (courseOf G i))
-      → (s.x < (columns G G.parts).count) × (s.y < G.parts + bottomRows G + topRows G)
-  unfolding courseOf course rankSpot
+      (i : ℕ) → i < size G → (s : Spot) → Memᴰ s (points_of (course_of G i))
+      → (s.x < (columns G G.parts).count) × (s.y < G.parts + bottom_rows G + top_rows G)
+  unfolding course_of course rank_spot
   points_within i h s g =
-      let c : Course = courseOf G i in
+      let c : Course = course_of G i in
       let f : Within c.from = spots_within (lower G i) (omega (arith, H.rises i h, H.inside i h)) in
       let t : Within c.to = spots_within (upper G i) (H.inside i h) in
       let x : c.column < (columns G G.parts).count = cable_column_below G.parts i in
-      let u : c.high < G.parts + bottomRows G + topRows G = high_below i h in
-      let l : c.low < G.parts + bottomRows G + topRows G = omega (arith, rising i h) in
+      let u : c.high < G.parts + bottom_rows G + top_rows G = high_below i h in
+      let l : c.low < G.parts + bottom_rows G + top_rows G = omega (arith, rising i h) in
       points_all Within c f (f.0, l) (x, l) (x, u) (t.0, u) t s g
 
   -- a point is a part's spot or a corner
   abbrev Found : (Spot → ℕ) → ℕ → Type 0
   Found f v =
-      ((k : ℕ) × (k < G.parts) × (f (rankSpot G k) ≡ v))
-      ⊎ ((i : ℕ) × (s : Spot) × (i < size G) × Memᴰ s (corners_of (courseOf G i)) × (f s ≡ v))
+      ((k : ℕ) × (k < G.parts) × (f (rank_spot G k) ≡ v))
+      ⊎ ((i : ℕ) × (s : Spot) × (i < size G) × Memᴰ s (corners_of (course_of G i)) × (f s ≡ v))
 
-  found : (f : Spot → ℕ) (v i : ℕ) (s : Spot) → i < size G → Memᴰ s (turns (courseOf G i)) → f s ≡ v → Found f v
-  unfolding courseOf course rankSpot
+  found : (f : Spot → ℕ) (v i : ℕ) (s : Spot) → i < size G → Memᴰ s (turns (course_of G i)) → f s ≡ v → Found f v
+  unfolding course_of course rank_spot
   found f v i s h g e = first (Memᴰ.cases_cons (subst (λ (l : List Spot). Memᴰ s l) (points_split c (λ q. omega (arith, rising i h))) (turns_points c g)))
     where
       c : Course
-      c = courseOf G i
+      c = course_of G i
 
       last : Memᴰ s (corners_of c) ⊎ Memᴰ s (c.to ∷ []) → Found f v
       last (inl k) = inr (i, s, h, k, e)
@@ -280,14 +280,14 @@ module _ (G : StGraph) (H : Ranked G) where
 
     -- '2m - 2n + 2 + d + e corners'
     pub corners_sum :
-        sum (tabulate (size G) (λ i. length (corners_of (courseOf G i)))) + 2 * G.parts ≡ 2 * size G + 2 + bottomRows G + topRows G
+        sum (tabulate (size G) (λ i. length (corners_of (course_of G i)))) + 2 * G.parts ≡ 2 * size G + 2 + bottom_rows G + top_rows G
     corners_sum =
         let x : ℕ → ℕ = λ i. get_or (columns G G.parts).cables i 0 in
         let p : ℕ → Bool = λ i. eqb (x i) (get_or (columns G G.parts).parts (lower G i) 0) in
         let q : ℕ → Bool = λ i. eqb (x i) (get_or (columns G G.parts).parts (upper G i) 0) in
-        let b : ℕ → Bool = λ i. eqb i (bottomLine G) in
-        let t : ℕ → Bool = λ i. eqb i (topLine G) in
-        let e : sum (tabulate (size G) (λ i. length (corners_of (courseOf G i)))) ≡ sum (tabulate (size G) (λ i. one_if (not (p i)) + one_if (not (q i)) + one_if (b i) + one_if (t i))) = sum_ext _ _ (size G) corners_one in
+        let b : ℕ → Bool = λ i. eqb i (bottom_line G) in
+        let t : ℕ → Bool = λ i. eqb i (top_line G) in
+        let e : sum (tabulate (size G) (λ i. length (corners_of (course_of G i)))) ≡ sum (tabulate (size G) (λ i. one_if (not (p i)) + one_if (not (q i)) + one_if (b i) + one_if (t i))) = sum_ext _ _ (size G) corners_one in
         omega (
           arith,
           e,
@@ -302,24 +302,24 @@ module _ (G : StGraph) (H : Ranked G) where
 
     -- the greatest x and the greatest y are those of a part or of a corner
     pub width_spot :
-        ((k : ℕ) × (k < G.parts) × (suc (rankSpot G k).x ≡ (columns G G.parts).count))
-        ⊎ ((i : ℕ) × (s : Spot) × (i < size G) × Memᴰ s (corners_of (courseOf G i)) × (suc s.x ≡ (columns G G.parts).count))
-    unfolding courseOf course turns
+        ((k : ℕ) × (k < G.parts) × (suc (rank_spot G k).x ≡ (columns G G.parts).count))
+        ⊎ ((i : ℕ) × (s : Spot) × (i < size G) × Memᴰ s (corners_of (course_of G i)) × (suc s.x ≡ (columns G G.parts).count))
+    unfolding course_of course turns
     width_spot =
         let r = width_reached in
-        let c : Course = courseOf G r.0 in
+        let c : Course = course_of G r.0 in
         found (λ s. suc s.x) _ r.0 (record { x = c.column; y = c.low }) r.1 (Memᴰ.tail (Memᴰ.tail (Memᴰ.head refl))) r.2
 
     pub height_spot :
-        ((k : ℕ) × (k < G.parts) × (suc (rankSpot G k).y ≡ G.parts + bottomRows G + topRows G))
-        ⊎ ((i : ℕ) × (s : Spot) × (i < size G) × Memᴰ s (corners_of (courseOf G i)) × (suc s.y ≡ G.parts + bottomRows G + topRows G))
-    unfolding courseOf course turns rankSpot partSpot row
-    height_spot = go (ℕ_discrete (topRows G) 1)
+        ((k : ℕ) × (k < G.parts) × (suc (rank_spot G k).y ≡ G.parts + bottom_rows G + top_rows G))
+        ⊎ ((i : ℕ) × (s : Spot) × (i < size G) × Memᴰ s (corners_of (course_of G i)) × (suc s.y ≡ G.parts + bottom_rows G + top_rows G))
+    unfolding course_of course turns rank_spot part_spot row
+    height_spot = go (ℕ_discrete (top_rows G) 1)
       where
-        go : Dec (topRows G ≡ 1) → Found (λ s. suc s.y) (G.parts + bottomRows G + topRows G)
+        go : Dec (top_rows G ≡ 1) → Found (λ s. suc s.y) (G.parts + bottom_rows G + top_rows G)
         go (yes e) =
-            let i : ℕ = topLine G in
-            let c : Course = courseOf G i in
+            let i : ℕ = top_line G in
+            let c : Course = course_of G i in
             found (λ s. suc s.y) _ i (record { x = c.column; y = c.high }) (row_top G H e)
             (Memᴰ.tail (Memᴰ.tail (Memᴰ.tail (Memᴰ.head refl)))) (rw (eq-eqb i i refl) (omega arith))
         go (no e) = inl (G.parts - 1, omega arith, omega (arith, top_rows_le G H))

@@ -16,7 +16,7 @@ use Rattle.lists.proofs.Sort.{sort_by_e, sort_by_i, length_sort_by, distinct_sor
 use Rattle.order.specs.Graph.{StGraph, size, lower, upper, lines_at}
 use Rattle.order.specs.RankedGraphs.{Ranked}
 use Rattle.layout.specs.Ports.{in_ports, out_ports, place_below, new_left, new_right, port_column}
-use Rattle.layout.specs.Columns.{moved, bottomLine, topLine, byRank, byColumn, outgoing, incoming, taken, step, columns}
+use Rattle.layout.specs.Columns.{moved, bottom_line, top_line, by_rank, by_column, outgoing, incoming, taken, step, columns}
 use Rattle.layout.proofs.Ports.{Ports, shown, port_column_lem}
 use Rattle.layout.proofs.EndLines.{lines_at_e, lines_at_i, distinct_lines_at, bottom_ends, top_ends}
 
@@ -43,84 +43,84 @@ module _ (G : StGraph) where
   -- Outgoing cables
 
   pub outgoing_e : {i : ℕ} (k : ℕ) → Memᴰ i (outgoing G k) → (i < size G) × (lower G i ≡ k)
-  unfolding outgoing byRank
-  outgoing_e k h = lines_at_e (size G) (lower G) k (sort_by_e (upper G) (lines_at (size G) (lower G) k) (lastly_e (bottomLine G) _ h))
+  unfolding outgoing by_rank
+  outgoing_e k h = lines_at_e (size G) (lower G) k (sort_by_e (upper G) (lines_at (size G) (lower G) k) (lastly_e (bottom_line G) _ h))
 
   pub outgoing_i : (i k : ℕ) → i < size G → lower G i ≡ k → Memᴰ i (outgoing G k)
-  unfolding outgoing byRank
-  outgoing_i i k h e = lastly_i (bottomLine G) _ (sort_by_i (upper G) (lines_at (size G) (lower G) k) (lines_at_i i (size G) (lower G) k h e))
+  unfolding outgoing by_rank
+  outgoing_i i k h e = lastly_i (bottom_line G) _ (sort_by_i (upper G) (lines_at (size G) (lower G) k) (lines_at_i i (size G) (lower G) k h e))
 
   pub length_outgoing : (k : ℕ) → length (outgoing G k) ≡ length (lines_at (size G) (lower G) k)
-  unfolding outgoing byRank
-  length_outgoing k = length_lastly (bottomLine G) _ ∙ length_sort_by (upper G) (lines_at (size G) (lower G) k)
+  unfolding outgoing by_rank
+  length_outgoing k = length_lastly (bottom_line G) _ ∙ length_sort_by (upper G) (lines_at (size G) (lower G) k)
 
-  pub distinct_by_rank : (k : ℕ) → Distinct (byRank G k)
-  unfolding byRank
+  pub distinct_by_rank : (k : ℕ) → Distinct (by_rank G k)
+  unfolding by_rank
   distinct_by_rank k = distinct_sort_by (upper G) (lines_at (size G) (lower G) k) (distinct_lines_at (size G) (lower G) k)
 
   pub distinct_outgoing : (k : ℕ) → Distinct (outgoing G k)
-  unfolding outgoing byRank
-  distinct_outgoing k = distinct_lastly (bottomLine G) _ (distinct_by_rank k)
+  unfolding outgoing by_rank
+  distinct_outgoing k = distinct_lastly (bottom_line G) _ (distinct_by_rank k)
 
   -- Incoming cables, with the columns xs of the cables
 
   pub incoming_e : {i : ℕ} (xs : List ℕ) (k : ℕ) → Memᴰ i (incoming G xs k) → (i < size G) × (upper G i ≡ k)
-  unfolding incoming byColumn
-  incoming_e xs k h = lines_at_e (size G) (upper G) k (sort_by_e (λ i. get_or xs i 0) (lines_at (size G) (upper G) k) (lastly_e (topLine G) _ h))
+  unfolding incoming by_column
+  incoming_e xs k h = lines_at_e (size G) (upper G) k (sort_by_e (λ i. get_or xs i 0) (lines_at (size G) (upper G) k) (lastly_e (top_line G) _ h))
 
   pub incoming_i : (xs : List ℕ) (i k : ℕ) → i < size G → upper G i ≡ k → Memᴰ i (incoming G xs k)
-  unfolding incoming byColumn
-  incoming_i xs i k h e = lastly_i (topLine G) _ (sort_by_i (λ i. get_or xs i 0) (lines_at (size G) (upper G) k) (lines_at_i i (size G) (upper G) k h e))
+  unfolding incoming by_column
+  incoming_i xs i k h e = lastly_i (top_line G) _ (sort_by_i (λ i. get_or xs i 0) (lines_at (size G) (upper G) k) (lines_at_i i (size G) (upper G) k h e))
 
   pub length_incoming : (xs : List ℕ) (k : ℕ) → length (incoming G xs k) ≡ length (lines_at (size G) (upper G) k)
-  unfolding incoming byColumn
-  length_incoming xs k = length_lastly (topLine G) _ ∙ length_sort_by (λ i. get_or xs i 0) (lines_at (size G) (upper G) k)
+  unfolding incoming by_column
+  length_incoming xs k = length_lastly (top_line G) _ ∙ length_sort_by (λ i. get_or xs i 0) (lines_at (size G) (upper G) k)
 
-  pub distinct_by_column : (xs : List ℕ) (k : ℕ) → Distinct (byColumn G xs k)
-  unfolding byColumn
+  pub distinct_by_column : (xs : List ℕ) (k : ℕ) → Distinct (by_column G xs k)
+  unfolding by_column
   distinct_by_column xs k = distinct_sort_by (λ i. get_or xs i 0) (lines_at (size G) (upper G) k) (distinct_lines_at (size G) (upper G) k)
 
   pub distinct_incoming : (xs : List ℕ) (k : ℕ) → Distinct (incoming G xs k)
-  unfolding incoming byColumn
-  distinct_incoming xs k = distinct_lastly (topLine G) _ (distinct_by_column xs k)
+  unfolding incoming by_column
+  distinct_incoming xs k = distinct_lastly (top_line G) _ (distinct_by_column xs k)
 
   -- The bottom and the top connection are the last of their lists
 
-  pub bottom_last : bottomLine G < size G → suc (index_of (bottomLine G) (outgoing G 0)) ≡ length (lines_at (size G) (lower G) 0)
-  unfolding outgoing byRank
+  pub bottom_last : bottom_line G < size G → suc (index_of (bottom_line G) (outgoing G 0)) ≡ length (lines_at (size G) (lower G) 0)
+  unfolding outgoing by_rank
   bottom_last h =
-      lastly_last (bottomLine G) (byRank G 0) (distinct_by_rank 0) (sort_by_i (upper G) _ (lines_at_i (bottomLine G) (size G) (lower G) 0 h (bottom_ends G h).1))
+      lastly_last (bottom_line G) (by_rank G 0) (distinct_by_rank 0) (sort_by_i (upper G) _ (lines_at_i (bottom_line G) (size G) (lower G) 0 h (bottom_ends G h).1))
       ∙ length_sort_by (upper G) (lines_at (size G) (lower G) 0)
 
-  pub top_last : (xs : List ℕ) → topLine G < size G → suc (index_of (topLine G) (incoming G xs (G.parts - 1))) ≡ length (lines_at (size G) (upper G) (G.parts - 1))
-  unfolding incoming byColumn
+  pub top_last : (xs : List ℕ) → top_line G < size G → suc (index_of (top_line G) (incoming G xs (G.parts - 1))) ≡ length (lines_at (size G) (upper G) (G.parts - 1))
+  unfolding incoming by_column
   top_last xs h =
-      lastly_last (topLine G) (byColumn G xs (G.parts - 1)) (distinct_by_column xs (G.parts - 1))
-      (sort_by_i (λ i. get_or xs i 0) _ (lines_at_i (topLine G) (size G) (upper G) (G.parts - 1) h (top_ends G h).2))
+      lastly_last (top_line G) (by_column G xs (G.parts - 1)) (distinct_by_column xs (G.parts - 1))
+      (sort_by_i (λ i. get_or xs i 0) _ (lines_at_i (top_line G) (size G) (upper G) (G.parts - 1) h (top_ends G h).2))
       ∙ length_sort_by (λ i. get_or xs i 0) (lines_at (size G) (upper G) (G.parts - 1))
 
   -- the top connection is behind the first three
-  before_top : (xs : List ℕ) (k b : ℕ) → b < length (lines_at (size G) (upper G) k) → b < 3 → b < length (without (topLine G) (byColumn G xs k))
-  unfolding byColumn
-  before_top xs k b g l = go (dec_lt (topLine G) (size G)) (ℕ_discrete (upper G (topLine G)) k)
+  before_top : (xs : List ℕ) (k b : ℕ) → b < length (lines_at (size G) (upper G) k) → b < 3 → b < length (without (top_line G) (by_column G xs k))
+  unfolding by_column
+  before_top xs k b g l = go (dec_lt (top_line G) (size G)) (ℕ_discrete (upper G (top_line G)) k)
     where
       lines : List ℕ
-      lines = byColumn G xs k
+      lines = by_column G xs k
 
       all : length lines ≡ length (lines_at (size G) (upper G) k)
       all = length_sort_by (λ i. get_or xs i 0) (lines_at (size G) (upper G) k)
 
-      within : Memᴰ (topLine G) lines → (topLine G < size G) × (upper G (topLine G) ≡ k)
+      within : Memᴰ (top_line G) lines → (top_line G < size G) × (upper G (top_line G) ≡ k)
       within m = lines_at_e (size G) (upper G) k (sort_by_e (λ i. get_or xs i 0) (lines_at (size G) (upper G) k) m)
 
-      absent : (Memᴰ (topLine G) lines → ⊥) → b < length (without (topLine G) lines)
-      absent n = omega (arith, ap length (without_absent (topLine G) lines n), all)
+      absent : (Memᴰ (top_line G) lines → ⊥) → b < length (without (top_line G) lines)
+      absent n = omega (arith, ap length (without_absent (top_line G) lines n), all)
 
-      go : Dec (topLine G < size G) → Dec (upper G (topLine G) ≡ k) → b < length (without (topLine G) lines)
+      go : Dec (top_line G < size G) → Dec (upper G (top_line G) ≡ k) → b < length (without (top_line G) lines)
       go (yes u) (yes v) =
           let f = top_ends G u in
           let e : G.parts - 1 ≡ k = sym f.2 ∙ v in
-          omega (arith, f.0, ap (λ (r : ℕ). length (lines_at (size G) (upper G) r)) e, all, without_most (topLine G) lines (distinct_by_column xs k))
+          omega (arith, f.0, ap (λ (r : ℕ). length (lines_at (size G) (upper G) r)) e, all, without_most (top_line G) lines (distinct_by_column xs k))
       go (yes u) (no v) = absent (λ m. v (within m).1)
       go (no u) v = absent (λ m. u (within m).0)
 
@@ -128,11 +128,11 @@ module _ (G : StGraph) where
   pub incoming_rises :
       (xs : List ℕ) (k a b : ℕ) → a ≤ b → b < length (incoming G xs k) → b < 3
       → get_or xs (get_or (incoming G xs k) a 0) 0 ≤ get_or xs (get_or (incoming G xs k) b 0) 0
-  unfolding incoming byColumn
+  unfolding incoming by_column
   incoming_rises xs k a b h g l =
       let key : ℕ → ℕ = λ i. get_or xs i 0 in
-      lastly_rises key (topLine G) (sort_by key (lines_at (size G) (upper G) k)) (rising_sort_by key (lines_at (size G) (upper G) k)) a b h
-      (before_top xs k b (omega (arith, length_lastly (topLine G) (sort_by key (lines_at (size G) (upper G) k)), length_sort_by key (lines_at (size G) (upper G) k))) l)
+      lastly_rises key (top_line G) (sort_by key (lines_at (size G) (upper G) k)) (rising_sort_by key (lines_at (size G) (upper G) k)) a b h
+      (before_top xs k b (omega (arith, length_lastly (top_line G) (sort_by key (lines_at (size G) (upper G) k)), length_sort_by key (lines_at (size G) (upper G) k))) l)
 
   -- The columns once k ranks stand: of the cable at line i, of rank j, and their count
 
@@ -154,18 +154,18 @@ module _ (G : StGraph) where
   unfoldable pub ins : ℕ → ℕ
   ins k = length (lines_at (size G) (upper G) k)
 
-  unfoldable pub outPlace : ℕ → ℕ → ℕ
-  outPlace k i = index_of i (outgoing G k)
+  unfoldable pub out_place : ℕ → ℕ → ℕ
+  out_place k i = index_of i (outgoing G k)
 
   -- among the incoming cables by their columns once k ranks stand
-  unfoldable pub inPlace : ℕ → ℕ → ℕ
-  inPlace k i = index_of i (incoming G (columns G k).cables k)
+  unfoldable pub in_place : ℕ → ℕ → ℕ
+  in_place k i = index_of i (incoming G (columns G k).cables k)
 
-  unfoldable pub inAt : ℕ → ℕ → ℕ
-  inAt k j = get_or (incoming G (columns G k).cables k) j 0
+  unfoldable pub in_at : ℕ → ℕ → ℕ
+  in_at k j = get_or (incoming G (columns G k).cables k) j 0
 
-  unfoldable pub takenColumn : ℕ → ℕ
-  takenColumn k = taken G (columns G k).cables k
+  unfoldable pub taken_column : ℕ → ℕ
+  taken_column k = taken G (columns G k).cables k
 
   unfoldable pub lefts : ℕ → ℕ
   lefts k = new_left (out_ports (ins k) (outs k))
@@ -185,12 +185,12 @@ module _ (G : StGraph) where
 
   -- The state once rank k stands
 
-  opened_port : (k i : ℕ) → i < size G → lower G i ≡ k → cable (suc k) i ≡ get_or (map (port_column (takenColumn k) (lefts k)) (out_ports (ins k) (outs k))) (outPlace k i) 0
-  unfolding cable columns step takenColumn lefts outPlace ins outs
+  opened_port : (k i : ℕ) → i < size G → lower G i ≡ k → cable (suc k) i ≡ get_or (map (port_column (taken_column k) (lefts k)) (out_ports (ins k) (outs k))) (out_place k i) 0
+  unfolding cable columns step taken_column lefts out_place ins outs
   opened_port k i h e = get_d_tabulate (size G) _ i 0 h ∙ rw (eq-eqb (lower G i) k e)
 
-  pub cable_kept : (k i : ℕ) → i < size G → (lower G i ≡ k → ⊥) → cable (suc k) i ≡ moved (takenColumn k) (lefts k) (rights k) (cable k i)
-  unfolding cable columns step takenColumn lefts rights ins outs
+  pub cable_kept : (k i : ℕ) → i < size G → (lower G i ≡ k → ⊥) → cable (suc k) i ≡ moved (taken_column k) (lefts k) (rights k) (cable k i)
+  unfolding cable columns step taken_column lefts rights ins outs
   cable_kept k i h n = get_d_tabulate (size G) _ i 0 h ∙ rw (ne_eqb (lower G i) k n)
 
   pub length_cables : (k : ℕ) → length (columns G k).cables ≡ size G
@@ -203,12 +203,12 @@ module _ (G : StGraph) where
   length_parts zero = refl
   length_parts (suc k) = length_more _ (columns G k).parts _ ∙ ap suc (length_parts k)
 
-  pub part_kept : (k j : ℕ) → j < k → part (suc k) j ≡ moved (takenColumn k) (lefts k) (rights k) (part k j)
-  unfolding part columns step takenColumn lefts rights ins outs
+  pub part_kept : (k j : ℕ) → j < k → part (suc k) j ≡ moved (taken_column k) (lefts k) (rights k) (part k j)
+  unfolding part columns step taken_column lefts rights ins outs
   part_kept k j h = get_d_more _ (columns G k).parts _ j k (length_parts k) h
 
-  pub part_opened : (k : ℕ) → part (suc k) k ≡ takenColumn k + lefts k
-  unfolding part columns step takenColumn lefts rights ins outs
+  pub part_opened : (k : ℕ) → part (suc k) k ≡ taken_column k + lefts k
+  unfolding part columns step taken_column lefts rights ins outs
   part_opened k = get_d_last _ (columns G k).parts _ k (length_parts k)
 
   pub width_suc : (k : ℕ) → width (suc k) ≡ width k + lefts k + rights k
@@ -217,52 +217,52 @@ module _ (G : StGraph) where
 
   -- Places
 
-  pub out_place_below : (k i : ℕ) → i < size G → lower G i ≡ k → outPlace k i < outs k
-  unfolding outPlace outs
+  pub out_place_below : (k i : ℕ) → i < size G → lower G i ≡ k → out_place k i < outs k
+  unfolding out_place outs
   out_place_below k i h e = index_of_below (outgoing G k) (outgoing_i i k h e)
 
-  pub out_place_one : (k i j : ℕ) → i < size G → j < size G → lower G i ≡ k → lower G j ≡ k → outPlace k i ≡ outPlace k j → i ≡ j
-  unfolding outPlace
+  pub out_place_one : (k i j : ℕ) → i < size G → j < size G → lower G i ≡ k → lower G j ≡ k → out_place k i ≡ out_place k j → i ≡ j
+  unfolding out_place
   out_place_one k i j h g e f q = index_of_one (outgoing G k) (outgoing_i i k h e) (outgoing_i j k g f) q
 
-  pub in_place_below : (k i : ℕ) → i < size G → upper G i ≡ k → inPlace k i < ins k
-  unfolding inPlace ins
+  pub in_place_below : (k i : ℕ) → i < size G → upper G i ≡ k → in_place k i < ins k
+  unfolding in_place ins
   in_place_below k i h e =
       let xs = (columns G k).cables in
       omega (arith, index_of_below (incoming G xs k) (incoming_i xs i k h e), length_incoming xs k)
 
-  pub in_place_one : (k i j : ℕ) → i < size G → j < size G → upper G i ≡ k → upper G j ≡ k → inPlace k i ≡ inPlace k j → i ≡ j
-  unfolding inPlace
+  pub in_place_one : (k i j : ℕ) → i < size G → j < size G → upper G i ≡ k → upper G j ≡ k → in_place k i ≡ in_place k j → i ≡ j
+  unfolding in_place
   in_place_one k i j h g e f q =
       let xs = (columns G k).cables in
       index_of_one (incoming G xs k) (incoming_i xs i k h e) (incoming_i xs j k g f) q
 
-  pub in_at_in_place : (k i : ℕ) → i < size G → upper G i ≡ k → inAt k (inPlace k i) ≡ i
-  unfolding inAt inPlace
+  pub in_at_in_place : (k i : ℕ) → i < size G → upper G i ≡ k → in_at k (in_place k i) ≡ i
+  unfolding in_at in_place
   in_at_in_place k i h e =
       let xs = (columns G k).cables in
       get_d_index_of (incoming G xs k) 0 (incoming_i xs i k h e)
 
-  pub in_at_comes : (k j : ℕ) → j < ins k → (inAt k j < size G) × (upper G (inAt k j) ≡ k)
-  unfolding inAt ins
+  pub in_at_comes : (k j : ℕ) → j < ins k → (in_at k j < size G) × (upper G (in_at k j) ≡ k)
+  unfolding in_at ins
   in_at_comes k j h =
       let xs = (columns G k).cables in
       incoming_e xs k (get_d_mem (incoming G xs k) j 0 (omega (arith, length_incoming xs k)))
 
-  pub in_at_one : (k a b : ℕ) → a < ins k → b < ins k → inAt k a ≡ inAt k b → a ≡ b
-  unfolding inAt ins
+  pub in_at_one : (k a b : ℕ) → a < ins k → b < ins k → in_at k a ≡ in_at k b → a ≡ b
+  unfolding in_at ins
   in_at_one k a b h g e =
       let xs = (columns G k).cables in
       distinct_places (incoming G xs k) (distinct_incoming xs k) a b 0 (omega (arith, length_incoming xs k)) (omega (arith, length_incoming xs k)) e
 
-  pub in_at_rises : (k a b : ℕ) → a ≤ b → b < ins k → b < 3 → cable k (inAt k a) ≤ cable k (inAt k b)
-  unfolding inAt ins cable
+  pub in_at_rises : (k a b : ℕ) → a ≤ b → b < ins k → b < 3 → cable k (in_at k a) ≤ cable k (in_at k b)
+  unfolding in_at ins cable
   in_at_rises k a b h g l =
       let xs = (columns G k).cables in
       incoming_rises xs k a b h (omega (arith, length_incoming xs k)) l
 
-  pub taken_column_none : (k : ℕ) → ins k ≡ 0 → takenColumn k ≡ 0
-  unfolding takenColumn taken ins
+  pub taken_column_none : (k : ℕ) → ins k ≡ 0 → taken_column k ≡ 0
+  unfolding taken_column taken ins
   taken_column_none k e =
       let xs = (columns G k).cables in
       get_d_none (λ i. get_or xs i 0) (incoming G xs k) _ (ins k) (length_incoming xs k) e
@@ -280,12 +280,12 @@ module _ (G : StGraph) where
     ports k = (shown (ins k) (outs k) (degree k)).columns
 
     -- the outgoing cables of rank k have the columns from the first new one on
-    pub cable_opened : (k i : ℕ) → i < size G → lower G i ≡ k → cable (suc k) i ≡ takenColumn k + outPlace k i
+    pub cable_opened : (k i : ℕ) → i < size G → lower G i ≡ k → cable (suc k) i ≡ taken_column k + out_place k i
     unfolding lefts
-    cable_opened k i h e = opened_port k i h e ∙ port_column_lem (ins k) (outs k) (degree k) (takenColumn k) (outPlace k i) (out_place_below k i h e)
+    cable_opened k i h e = opened_port k i h e ∙ port_column_lem (ins k) (outs k) (degree k) (taken_column k) (out_place k i) (out_place_below k i h e)
 
-    pub taken_column_comes : (k : ℕ) → 0 < ins k → takenColumn k ≡ cable k (inAt k ((ins k - 1) / 2))
-    unfolding takenColumn taken ins inAt cable
+    pub taken_column_comes : (k : ℕ) → 0 < ins k → taken_column k ≡ cable k (in_at k ((ins k - 1) / 2))
+    unfolding taken_column taken ins in_at cable
     taken_column_comes k h =
         let xs = (columns G k).cables in
         let e : length (incoming G xs k) ≡ ins k = length_incoming xs k in

@@ -14,7 +14,7 @@ use Rattle.lists.proofs.Sums.{count_key, count_all, count_none}
 use Rattle.order.specs.Graph.{StGraph, size, lower, lines_at}
 use Rattle.order.specs.RankedGraphs.{Ranked}
 use Rattle.layout.specs.Columns.{moved, outgoing, columns}
-use Rattle.layout.proofs.Step.{outgoing_e, length_outgoing, distinct_outgoing, cable, part, width, outs, ins, outPlace, inAt, takenColumn, lefts, rights, cable_start, width_start, cable_opened, cable_kept, length_cables, part_kept, part_opened, width_suc, out_place_below, in_place_below, taken_column_none, ports, taken_column_comes}
+use Rattle.layout.proofs.Step.{outgoing_e, length_outgoing, distinct_outgoing, cable, part, width, outs, ins, out_place, in_at, taken_column, lefts, rights, cable_start, width_start, cable_opened, cable_kept, length_cables, part_kept, part_opened, width_suc, out_place_below, in_place_below, taken_column_none, ports, taken_column_comes}
 use Rattle.layout.proofs.Moved.{moved_left, moved_right, moved_none, moved_le}
 
 module _ (G : StGraph) where
@@ -27,8 +27,8 @@ module _ (G : StGraph) where
   unfolding out_at outs
   out_at_goes k j h = outgoing_e G k (get_d_mem (outgoing G k) j 0 h)
 
-  pub out_place_out_at : (k j : ℕ) → j < outs G k → outPlace G k (out_at k j) ≡ j
-  unfolding out_at outs outPlace
+  pub out_place_out_at : (k j : ℕ) → j < outs G k → out_place G k (out_at k j) ≡ j
+  unfolding out_at outs out_place
   out_place_out_at k j h = index_of_get_d (outgoing G k) j 0 (distinct_outgoing G k) h
 
   -- how many cables have their lower part among the first k ranks
@@ -110,19 +110,19 @@ module _ (G : StGraph) (H : Ranked G) where
   width_all h = let e : suc (G.parts - 1) ≡ G.parts = omega arith in subst (λ (k : ℕ). W k + k ≡ size G + 2) e (width_last (G.parts - 1) e)
 
   -- the column of a cable that rank k opens is within the block from the one taken
-  pub opened_within : (k i : ℕ) → i < size G → lower G i ≡ k → outPlace G k i ≤ lefts G k + rights G k
+  pub opened_within : (k i : ℕ) → i < size G → lower G i ≡ k → out_place G k i ≤ lefts G k + rights G k
   opened_within k i h e =
-      let b : outPlace G k i < O k = out_place_below G k i h e in
+      let b : out_place G k i < O k = out_place_below G k i h e in
       omega (arith, table k (omega arith))
 
   -- Every stored column is below the count, a cable's that is not opened too.
 
-  taken_column_below_of : (k : ℕ) → ((i : ℕ) → cable G k i < W k) → takenColumn G k < W k
+  taken_column_below_of : (k : ℕ) → ((i : ℕ) → cable G k i < W k) → taken_column G k < W k
   taken_column_below_of k c = go (ℕ_discrete (ins G k) 0)
     where
-      go : Dec (ins G k ≡ 0) → takenColumn G k < W k
+      go : Dec (ins G k ≡ 0) → taken_column G k < W k
       go (yes e) = omega (arith, taken_column_none G k e, c 0)
-      go (no q) = omega (arith, taken_column_comes G H k (omega arith), c (inAt G k ((ins G k - 1) / 2)))
+      go (no q) = omega (arith, taken_column_comes G H k (omega arith), c (in_at G k ((ins G k - 1) / 2)))
 
   pub cable_below : (k i : ℕ) → cable G k i < W k
   cable_below zero i = go (dec_lt i (size G))
@@ -132,13 +132,13 @@ module _ (G : StGraph) (H : Ranked G) where
       go (no l) = omega (arith, cable_none G 0 i (omega arith), width_start G)
   cable_below (suc k) i = go (taken_column_below_of k (λ j. cable_below k j)) (cable_below k i) (dec_lt i (size G)) (ℕ_discrete (lower G i) k)
     where
-      go : takenColumn G k < W k → cable G k i < W k → Dec (i < size G) → Dec (lower G i ≡ k) → cable G (suc k) i < W (suc k)
+      go : taken_column G k < W k → cable G k i < W k → Dec (i < size G) → Dec (lower G i ≡ k) → cable G (suc k) i < W (suc k)
       go t c (no l) d = omega (arith, cable_none G (suc k) i (omega arith), width_suc G k)
       go t c (yes l) (yes e) = omega (arith, cable_opened G H k i l e, opened_within k i l e, width_suc G k)
       go t c (yes l) (no e) =
-          omega (arith, cable_kept G k i l e, width_suc G k, moved_le (takenColumn G k) (A k) (B k) (cable G k i))
+          omega (arith, cable_kept G k i l e, width_suc G k, moved_le (taken_column G k) (A k) (B k) (cable G k i))
 
-  pub taken_column_below : (k : ℕ) → takenColumn G k < W k
+  pub taken_column_below : (k : ℕ) → taken_column G k < W k
   taken_column_below k = taken_column_below_of k (cable_below k)
 
   pub part_below : (k j : ℕ) → j < k → part G k j < W k
@@ -147,7 +147,7 @@ module _ (G : StGraph) (H : Ranked G) where
     where
       go : (j < k → part G k j < W k) → Dec (j < k) → part G (suc k) j < W (suc k)
       go below (yes l) =
-          omega (arith, below l, part_kept G k j l, width_suc G k, moved_le (takenColumn G k) (A k) (B k) (part G k j))
+          omega (arith, below l, part_kept G k j l, width_suc G k, moved_le (taken_column G k) (A k) (B k) (part G k j))
       go below (no l) =
           let e : j ≡ k = omega arith in
           rw e (omega (arith, taken_column_below k, part_opened G k, width_suc G k))
@@ -158,23 +158,23 @@ module _ (G : StGraph) (H : Ranked G) where
   Held k c = (i : ℕ) × (i < size G) × (lower G i < k) × (cable G k i ≡ c)
 
   -- a column that was held is held where it moved to
-  held_kept : (k c : ℕ) → Held k c → Held (suc k) (moved (takenColumn G k) (A k) (B k) c)
+  held_kept : (k c : ℕ) → Held k c → Held (suc k) (moved (taken_column G k) (A k) (B k) c)
   held_kept k c (i, l, o, e) =
-      (i, l, omega arith, cable_kept G k i l (λ q. omega arith) ∙ ap (moved (takenColumn G k) (A k) (B k)) e)
+      (i, l, omega arith, cable_kept G k i l (λ q. omega arith) ∙ ap (moved (taken_column G k) (A k) (B k)) e)
 
   held_cast : (k c d : ℕ) → c ≡ d → Held k c → Held k d
   held_cast k c d q (i, l, o, e) = (i, l, o, e ∙ q)
 
-  held_near : (k j : ℕ) → j < outs G k → Held (suc k) (takenColumn G k + j)
+  held_near : (k j : ℕ) → j < outs G k → Held (suc k) (taken_column G k + j)
   held_near k j h =
       let g = out_at_goes G k j h in
       (out_at G k j, g.0, omega arith, cable_opened G H k (out_at G k j) g.0 g.1 ∙ rw (out_place_out_at G k j h) refl)
 
-  held_suc : (k : ℕ) → 0 < outs G k → ((c : ℕ) → c < W k → (c ≡ takenColumn G k → ⊥) → Held k c) → (c : ℕ) → c < W (suc k) → Held (suc k) c
+  held_suc : (k : ℕ) → 0 < outs G k → ((c : ℕ) → c < W k → (c ≡ taken_column G k → ⊥) → Held k c) → (c : ℕ) → c < W (suc k) → Held (suc k) c
   held_suc k h old c l = go (dec_lt c p) (dec_lt (p + A k + B k) c)
     where
       p : ℕ
-      p = takenColumn G k
+      p = taken_column G k
 
       go : Dec (c < p) → Dec (p + A k + B k < c) → Held (suc k) c
       go (yes u) d =
@@ -190,6 +190,6 @@ module _ (G : StGraph) (H : Ranked G) where
     where
       go : ((d : ℕ) → d < W (suc k) → Held (suc k) d) → Dec (O (suc k) ≡ 0) → Held (suc (suc k)) c
       go old (yes e) =
-          held_cast (suc (suc k)) _ c (moved_none (takenColumn G (suc k)) (A (suc k)) (B (suc k)) c (ends_none (suc k) e).0 (ends_none (suc k) e).1)
+          held_cast (suc (suc k)) _ c (moved_none (taken_column G (suc k)) (A (suc k)) (B (suc k)) c (ends_none (suc k) e).0 (ends_none (suc k) e).1)
           (held_kept (suc k) c (old c (omega (arith, width_ends (suc k) e))))
       go old (no e) = held_suc (suc k) (omega arith) (λ d l q. old d l) c h

@@ -14,15 +14,15 @@ use Rattle.order.specs.Graph.{StGraph, lower, upper, lines_at}
 use Rattle.order.specs.RankedGraphs.{Ranked}
 use Rattle.layout.proofs.EndLines.{lines_at_e}
 use Rattle.geometry.specs.Spots.{Spot, spot_at}
-use Rattle.layout.specs.Points.{corners_of, rankSpot, courseOf}
+use Rattle.layout.specs.Points.{corners_of, rank_spot, course_of}
 use Rattle.layout.proofs.Computing.{layout_computing}
 
 -- the spots of the ranks, and the corners of the cable at a line
 abbrev spots : StGraph → List Spot
-spots G = tabulate G.parts (rankSpot G)
+spots G = tabulate G.parts (rank_spot G)
 
 abbrev corners : StGraph → ℕ → List Spot
-corners G i = corners_of (courseOf G i)
+corners G i = corners_of (course_of G i)
 
 abbrev b : StGraph
 b = record { parts = 4; lowers = 0 ∷ 1 ∷ 2 ∷ 0 ∷ []; uppers = 1 ∷ 3 ∷ 3 ∷ 2 ∷ [] }

@@ -19,45 +19,45 @@ moved p a b x = cond (ltb x p) x (cond (eqb x p) (x + a) (x + a + b))
 
 module _ (G : StGraph) where
   -- s has four cables: all cables of s, rank 0, are outgoing
-  abbrev pub sourceHasFour : Bool
-  sourceHasFour = eqb (length (lines_at (size G) (lower G) 0)) 4
+  abbrev pub source_has_four : Bool
+  source_has_four = eqb (length (lines_at (size G) (lower G) 0)) 4
 
   -- t has four: all cables of t, the last rank, are incoming
-  abbrev pub analyserHasFour : Bool
-  analyserHasFour = eqb (length (lines_at (size G) (upper G) (G.parts - 1))) 4
+  abbrev pub analyser_has_four : Bool
+  analyser_has_four = eqb (length (lines_at (size G) (upper G) (G.parts - 1))) 4
 
   -- the lowest line among those from rank j to rank k, or the count of lines where there is none; 2026-12: 'where several could leave s
   -- downward or climb over t, the lowest line does'
-  unfoldable pub lineBetween : ℕ → ℕ → ℕ
-  lineBetween j k = place_or (size G) (seek (λ i. eqb (lower G i) j && eqb (upper G i) k) 0 (size G))
+  unfoldable pub line_between : ℕ → ℕ → ℕ
+  line_between j k = place_or (size G) (seek (λ i. eqb (lower G i) j && eqb (upper G i) k) 0 (size G))
 
   -- 2026-04: 'Where s has four cables, the one to the second-ranked part leaves downward': the line at the bottom connection (source 000's
   -- term), or the count of lines where s has fewer.
-  unfoldable pub bottomLine : ℕ
-  bottomLine = cond sourceHasFour (lineBetween 0 1) (size G)
+  unfoldable pub bottom_line : ℕ
+  bottom_line = cond source_has_four (line_between 0 1) (size G)
 
   -- 'Where t has four, the cable from the last-ranked part but one climbs over the top': the line at the top connection, or the count of
   -- lines where t has fewer.
-  unfoldable pub topLine : ℕ
-  topLine = cond analyserHasFour (lineBetween (G.parts - 2) (G.parts - 1)) (size G)
+  unfoldable pub top_line : ℕ
+  top_line = cond analyser_has_four (line_between (G.parts - 2) (G.parts - 1)) (size G)
 
   -- the cables that go out of rank k, 'left to right by rising rank of the far end'; 2026-12: 'Among equal ranks of far ends the lower line
   -- comes first', since the lines are sorted as they rise, and the sort keeps the sequence of equals
-  unfoldable pub byRank : ℕ → List ℕ
-  byRank k = sort_by (upper G) (lines_at (size G) (lower G) k)
+  unfoldable pub by_rank : ℕ → List ℕ
+  by_rank k = sort_by (upper G) (lines_at (size G) (lower G) k)
 
   -- the cables that come in at rank k, by rising column
-  unfoldable pub byColumn : List ℕ → ℕ → List ℕ
-  byColumn xs k = sort_by (λ i. get_or xs i 0) (lines_at (size G) (upper G) k)
+  unfoldable pub by_column : List ℕ → ℕ → List ℕ
+  by_column xs k = sort_by (λ i. get_or xs i 0) (lines_at (size G) (upper G) k)
 
   -- the outgoing cables of rank k: the bottom connection, which 'takes the far right column', is last; 'the other three go left, own, right
   -- by rising rank'
   unfoldable pub outgoing : ℕ → List ℕ
-  outgoing k = lastly bottomLine (byRank k)
+  outgoing k = lastly bottom_line (by_rank k)
 
   -- the incoming cables of rank k: the top connection, wherever its column is, is last; 'the other three .. come in left, below and right'
   unfoldable pub incoming : List ℕ → ℕ → List ℕ
-  incoming xs k = lastly topLine (byColumn xs k)
+  incoming xs k = lastly top_line (by_column xs k)
 
   -- the column that rank k takes: that of the incoming cable from below, or the only one there is at the start
   unfoldable pub taken : List ℕ → ℕ → ℕ

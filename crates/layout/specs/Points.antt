@@ -3,7 +3,7 @@ use Rattle.std.specs.Prelude.{ℕ, ◌+◌, ◌-◌, cond, not, List, [], ◌∷
 use Rattle.lists.specs.Select.{one_if, cons_if}
 use Rattle.order.specs.Graph.{StGraph, lower, upper}
 use Rattle.geometry.specs.Spots.{Spot, same_spot, spot_at}
-use Rattle.layout.specs.Columns.{Columns, sourceHasFour, analyserHasFour, bottomLine, topLine, columns}
+use Rattle.layout.specs.Columns.{Columns, source_has_four, analyser_has_four, bottom_line, top_line, columns}
 
 -- A cable's course: up from its lower part's spot, or down to the lane below it; level in the lower lane to the cable's own column; up to
 -- the upper lane; level to its upper part's column; and up, or down, to the part.
@@ -44,34 +44,34 @@ corners_of c = inner (points_of c)
 
 module _ (G : StGraph) where
   -- 'Let d be 1 if s has four cables and 0 otherwise'
-  unfoldable pub bottomRows : ℕ
-  bottomRows = one_if (sourceHasFour G)
+  unfoldable pub bottom_rows : ℕ
+  bottom_rows = one_if (source_has_four G)
 
   -- 'and e the same for t'
-  unfoldable pub topRows : ℕ
-  topRows = one_if (analyserHasFour G)
+  unfoldable pub top_rows : ℕ
+  top_rows = one_if (analyser_has_four G)
 
   -- 'Rank k stands in row d + k.'
   unfoldable pub row : ℕ → ℕ
-  row k = bottomRows + k
+  row k = bottom_rows + k
 
   -- where rank k stands
-  unfoldable pub partSpot : Columns → ℕ → Spot
-  partSpot c k = spot_at (get_or c.parts k 0) (row k)
+  unfoldable pub part_spot : Columns → ℕ → Spot
+  part_spot c k = spot_at (get_or c.parts k 0) (row k)
 
   -- The course of the cable at line i. 'turns in row 0': the bottom connection; 'to row d + n': the top connection.
   unfoldable pub course : Columns → ℕ → Course
   course c i = record {
-    from = partSpot c (lower G i);
-    low = cond (eqb i (bottomLine G)) 0 (row (lower G i));
+    from = part_spot c (lower G i);
+    low = cond (eqb i (bottom_line G)) 0 (row (lower G i));
     column = get_or c.cables i 0;
-    high = cond (eqb i (topLine G)) (row G.parts) (row (upper G i));
-    to = partSpot c (upper G i);
+    high = cond (eqb i (top_line G)) (row G.parts) (row (upper G i));
+    to = part_spot c (upper G i);
   }
 
   -- where rank k stands and the course of the cable at line i, once all ranks stand
-  unfoldable pub rankSpot : ℕ → Spot
-  rankSpot k = partSpot (columns G G.parts) k
+  unfoldable pub rank_spot : ℕ → Spot
+  rank_spot k = part_spot (columns G G.parts) k
 
-  unfoldable pub courseOf : ℕ → Course
-  courseOf i = course (columns G G.parts) i
+  unfoldable pub course_of : ℕ → Course
+  course_of i = course (columns G G.parts) i

@@ -12,7 +12,7 @@ use signals::decibels::{together, zero};
 use words::limits::{MOST_DEGREE, MOST_PARTS};
 
 // As far as the cables have been looked at: no route, or the least and the greatest of all.
-#[derive(Drop)]
+#[derive(Clone, Copy)]
 pub enum Arrivals {
     NoRoute,
     Routes(Levels),

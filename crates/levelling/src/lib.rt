@@ -1,6 +1,8 @@
 // Signal levels at every part (request 2026-08): one pass over the ranks, in which each part looks at its own cables. In the field's terms it
 // finds the shortest and the longest path from the source to every vertex of a directed acyclic graph. The output itself holds the levels of
 // the parts that the pass has been at.
+#![tactic(auto)]
+
 use checks::Verdict;
 use levels::Levelled;
 use listing::fields::part_count;

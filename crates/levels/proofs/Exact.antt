@@ -10,7 +10,7 @@ use lib.Dec.{T, ltb, leb, eqb, ltb→lt, lt→ltb, nltb→le, eqb→eq, leb→le
 use lib.Pow.{pow_mono, shl_lt}
 use lib.IntN.{ℤ, pos, negsuc, neg_ℤ, nat_abs, ◌+ℤ◌, ◌-ℤ◌, +ℤ_idr}
 use lib.Signed.{lt_z, le_z}
-use lib.Ieee.{Float, nan, inf, fin, binary32, up, down, round, neg, sum, add, sub, div, lt, le, eq, of_int, of_bits, below, level}
+use lib.Ieee.{Float, nan, inf, fin, binary32, up, down, round, neg, sum, add, sub, div, lt, le, of_int, of_bits, below, level}
 use lib.Ieee.Fits.{down_pos, eq→eqb}
 use lib.Ieee.Exact.{HasValue, round_exact}
 use lib.Ieee.Back.{round_whole}

@@ -7,7 +7,7 @@ use lib.Dec.{T}
 use lib.IntN.{ℤ}
 use lib.Signed.{◌≤ℤ◌}
 use lib.ListN.{get_or}
-use lib.Ieee.{Float, le}
+use lib.Ieee.{Float}
 use Rattle.station.specs.Station.{Station}
 use Rattle.order.proofs.Bipolar.{Orderable}
 use Rattle.levels.specs.Level.{level_of, sort_in, behind}

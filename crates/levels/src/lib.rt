@@ -1,14 +1,15 @@
 // Signal levels at every part of a station (request 2026-08): definitions and laws, and the types that the call works and answers with.
+#![tactic(auto)]
 
 // 'the least and the greatest level in dB, as 32-bit floats'.
-#[derive(Drop)]
+#[derive(Clone, Copy)]
 pub struct Levels {
     pub least: f32,
     pub greatest: f32,
 }
 
 // What a part does to a signal: 'a joint without a number, 1 a pad with its loss, 2 an amplifier with its gain', in dB.
-#[derive(Drop)]
+#[derive(Clone, Copy)]
 pub enum Sort {
     Joint,
     Pad(f32),
@@ -16,7 +17,7 @@ pub enum Sort {
 }
 
 // A success returns the count of floats written; a refusal 'returns its number and one place'.
-#[derive(Drop)]
+#[derive(Clone, Copy)]
 pub enum Levelled {
     Written { floats: usize },
     Refused { check: u8, place: usize },

@@ -1,4 +1,6 @@
 // A station's list in code: checks 1 to 8 of document 01, and what later stages read of a list that passed them.
+#![tactic(auto)]
+
 use checks::Verdict;
 use lists::Found;
 

@@ -1,9 +1,11 @@
 // What searches, counts and comparisons share.
+#![tactic(auto)]
+
 ghost use Rattle.std.specs.Prelude.{◌≡◌, cond, min, max};
 ghost use Rattle.lists.specs.Select.{one_if};
 
 // What a search finds: the first place, or nothing.
-#[derive(Drop)]
+#[derive(Clone, Copy)]
 pub enum Found {
     At(usize),
     Nothing,

@@ -1,5 +1,7 @@
 // What lies at the marks of a technician (request 2026-10), in the field's terms hit testing: the sheet is judged once, then each mark is
 // one pass over its words.
+#![tactic(auto)]
+
 use crate::hits::{hit_at, word_of};
 use checks::Verdict;
 use directions::choose_directions;

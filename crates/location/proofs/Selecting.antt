@@ -120,12 +120,12 @@ turned_smallest p q cs b = smallest_same (line_over p cs q) (line_over q cs p) b
 smallest_turned :
     (st : Station) (d : Drawing) (f g : Bool) (i : ℕ) (b : Bounds) → Smallest (points_read st d f i) b → Smallest (points_read st d g i) b
 unfolding points_read route_points
-smallest_turned st d true true i b S = S
-smallest_turned st d false false i b S = S
-smallest_turned st d true false i b S =
-    turned_smallest (spot_of d (ends_at st true i).first) (spot_of d (ends_at st true i).last) (route_at d i).corners b S
-smallest_turned st d false true i b S =
-    turned_smallest (spot_of d (ends_at st false i).first) (spot_of d (ends_at st false i).last) (route_at d i).corners b S
+smallest_turned s d true true i b S = S
+smallest_turned s d false false i b S = S
+smallest_turned s d true false i b S =
+    turned_smallest (spot_of d (ends_at s true i).first) (spot_of d (ends_at s true i).last) (route_at d i).corners b S
+smallest_turned s d false true i b S =
+    turned_smallest (spot_of d (ends_at s false i).first) (spot_of d (ends_at s false i).last) (route_at d i).corners b S
 
 points_some : (st : Station) (d : Drawing) (f : Bool) (i : ℕ) → 0 < length (points_read st d f i)
 unfolding points_read route_points

@@ -1,10 +1,12 @@
 // Pointing at the screen (request 2026-10): what lies at a mark, a chosen cable's own words, and the box around it. Definitions and laws, and
 // what the calls answer with.
+#![tactic(auto)]
+
 use bounds::Bounds;
 use words::Part;
 
 // What lies at a mark: 'blank, one part, one cable, or two cables crossing'; 'of two cables the lower line is named first'.
-#[derive(Drop)]
+#[derive(Clone, Copy)]
 pub enum Hit {
     Blank,
     Part(Part),
@@ -13,14 +15,14 @@ pub enum Hit {
 }
 
 // 'that cable's own words of the sheet': where they start, and how many they are; a refusal 'gives number and place'.
-#[derive(Drop)]
+#[derive(Clone, Copy)]
 pub enum Selected {
     Words { start: usize, count: usize },
     Refused { check: u8, place: usize },
 }
 
 // The box around a cable, or a refusal.
-#[derive(Drop)]
+#[derive(Clone, Copy)]
 pub enum Bounded {
     Box(Bounds),
     Refused { check: u8, place: usize },

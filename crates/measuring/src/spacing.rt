@@ -12,7 +12,7 @@ use placement::{Course, Layout};
 use words::limits::MOST_FIELD;
 
 // The two numbers of a sheet's head.
-#[derive(Drop)]
+#[derive(Clone, Copy)]
 pub struct Head {
     pub width: u32,
     pub height: u32,

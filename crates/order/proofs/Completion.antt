@@ -76,7 +76,7 @@ module _ {cs : List Cable} {t : ℕ} where
   completes_last zero (ended a m) e = refl
   completes_last (suc k) (ended a m) e = absurd (omega arith)
   completes_last zero (ranked m n b a c) e = absurd (omega (arith, length_mem a.2))
-  completes_last (suc k) (ranked m n b a c) e = completes_last k c (omega arith)
+  completes_last {U = U} (suc k) (ranked {w = w} m n b a c) e = completes_last {U = without w U} k c (omega arith)
 
   pub completes_before : {U r : List ℕ} (k : ℕ) → Completes cs t U r → suc k < length r
       → (q : ℕ) × Joined cs (get_or r k 0) q × ((Memᴰ q U → ⊥) ⊎ ((j : ℕ) × (j < k) × (get_or r j 0 ≡ q)))

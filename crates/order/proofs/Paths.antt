@@ -21,7 +21,7 @@ module _ (cs : List Cable) where
   path_wider f (arrived {u} p e) = arrived (f u p) e
   path_wider f (onward {u} v p j r) = onward v (f u p) j (path_wider f r)
 
-  pub path_on : {P : ℕ → Type 0} {t u v : ℕ} → Path cs P v u → Path cs P t v → Path cs P t u
+  pub path_on : {P : ℕ → Type 0} {t v u : ℕ} → Path cs P v u → Path cs P t v → Path cs P t u
   path_on {P} {t} (arrived p e) q = subst (Path cs P t) (sym e) q
   path_on (onward v p j r) q = onward v p j (path_on r q)
 

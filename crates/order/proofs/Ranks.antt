@@ -112,9 +112,9 @@ module _ (st : Station) (H : Orderable st) where
   cable_of_lem l = omega (arith, graph_size st)
 
   -- ranks whose parts are joined are the ranks of some cable
-  line_between : (j k : ℕ) → j < k → k < st.parts → Joined st.cables (get_or (order st) k 0) (get_or (order st) j 0)
+  line_between_lem : (j k : ℕ) → j < k → k < st.parts → Joined st.cables (get_or (order st) k 0) (get_or (order st) j 0)
       → (i : ℕ) × (i < size g) × (lower g i ≡ j) × (upper g i ≡ k)
-  line_between j k h l c =
+  line_between_lem j k h l c =
       let i : Lined st.cables (get_or (order st) k 0) (get_or (order st) j 0) = joined_line st.cables (get_or (order st) k 0) (get_or (order st) j 0) c in
       let r : rank_in (order st) (get_or (order st) k 0) ≡ k = rank_of_part k l in
       let q : rank_in (order st) (get_or (order st) j 0) ≡ j = rank_of_part j (omega arith) in
@@ -150,7 +150,7 @@ module _ (st : Station) (H : Orderable st) where
     where
       from : (j : ℕ) → j < k → Joined st.cables (get_or (order st) k 0) (get_or (order st) j 0) → (i : ℕ) × (i < size g) × (upper g i ≡ k)
       from j m c =
-          let f : (i : ℕ) × (i < size g) × (lower g i ≡ j) × (upper g i ≡ k) = line_between j k m l c in
+          let f : (i : ℕ) × (i < size g) × (lower g i ≡ j) × (upper g i ≡ k) = line_between_lem j k m l c in
           (f.0, f.1, f.3)
 
       last : (j : ℕ) → suc j ≡ k → (a : ℕ) × (j < a) × (a < st.parts) × Joined st.cables (get_or (order st) j 0) (get_or (order st) a 0)
@@ -176,7 +176,7 @@ module _ (st : Station) (H : Orderable st) where
     where
       first : (j : ℕ) × (j < 1) × Joined st.cables (get_or (order st) 1 0) (get_or (order st) j 0) → (i : ℕ) × (i < size g) × (lower g i ≡ 0)
       first f =
-          let g : (i : ℕ) × (i < size g) × (lower g i ≡ f.0) × (upper g i ≡ 1) = line_between f.0 1 f.1 l f.2 in
+          let g : (i : ℕ) × (i < size g) × (lower g i ≡ f.0) × (upper g i ≡ 1) = line_between_lem f.0 1 f.1 l f.2 in
           (g.0, g.1, omega (arith, g.2, f.1))
   continued (suc k) l = later (O.after (suc k) (omega arith) l)
     where
@@ -184,7 +184,7 @@ module _ (st : Station) (H : Orderable st) where
           → (i : ℕ) × (i < size g) × (lower g i ≡ suc k)
       later f =
           let g : (i : ℕ) × (i < size g) × (lower g i ≡ suc k) × (upper g i ≡ f.0) =
-          line_between (suc k) f.0 f.1 f.2 (joined_sym st.cables f.3) in
+          line_between_lem (suc k) f.0 f.1 f.2 (joined_sym st.cables f.3) in
           (g.0, g.1, g.2)
 
   -- A line with an end of rank k is a cable of its part.

@@ -1,5 +1,5 @@
 -- Checks 9 and 10 and the order of document 01's examples, of chains and blocks and of stations B and C. Assumes nothing.
-use Prim.Native.Nat.{ℕ, ◌-◌}
+use Prim.Native.Nat.{ℕ}
 use mathlib.Core.Path.{◌≡◌, refl}
 use mathlib.Core.List.{List, [], ◌∷◌}
 use Rattle.lists.specs.declared.Found.TheVariants.{At, Nothing}

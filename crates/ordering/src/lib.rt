@@ -1,5 +1,7 @@
 // The part that gets each next rank (document 01, 'The order of parts'). Where a part is no candidate because it separates another one from
 // t, that one is its witness: fewer unranked parts make no new path, so that it needs no other walk until its witness is ranked.
+#![tactic(auto)]
+
 ghost use Rattle.std.specs.Prelude.{◌≡◌, ℕ, ◌<◌, ◌≤◌, length, get_or, take};
 ghost use Rattle.words.specs.Limits.{most_parts};
 ghost use Rattle.words.specs.Rooms.{stack_places};

@@ -2,9 +2,9 @@
 -- nothing.
 use Prim.Native.Nat.{ℕ, ◌≤◌}
 use native.Mathlib.Omega.{arith}
-use mathlib.Core.Path.{◌≡◌, sym, ◌∙◌}
+use mathlib.Core.Path.{◌≡◌, sym}
 use mathlib.Core.List.{List}
-use lib.ListN.{length, take, length-map}
+use lib.ListN.{length, take}
 use lib.Seq.{length-take-le}
 use mir.Val.{Val}
 use denote.Laws.{Is}
@@ -25,4 +25,4 @@ lent {m} {n} l h e = let b : m ≤ length l = omega arith in record { within = b
 module _ {g : Graph} (v : GraphFits g) where
   module _ (c : Columns) {vs : List Val} (h : Is (row of-columns.the_type) c vs) where
     pub parts_lent : Lent g.parts c.parts
-    parts_lent = lent c.parts v.most (sym (length-map c.parts (λ x. x)) ∙ h.1.1.1.0.1.0.1)
+    parts_lent = lent c.parts v.most h.1.1.1.0.1.0.1

@@ -19,8 +19,8 @@ use Rattle.placement.specs.declared.Course as code-course
 use Rattle.incidence.specs.declared.incident.Incident.{Incident}
 use Rattle.placement.specs.declared.connections.Connections.{Connections}
 use Rattle.placement.specs.declared.courses.PlacedCable.{PlacedCable}
-use Rattle.layout.specs.Columns.{bottomLine, topLine, outgoing, incoming, columns}
-use Rattle.layout.specs.Points.{Course, bottomRows, row, partSpot, course, courseOf}
+use Rattle.layout.specs.Columns.{bottom_line, top_line, outgoing, incoming, columns}
+use Rattle.layout.specs.Points.{Course, bottom_rows, row, part_spot, course, course_of}
 use Rattle.placement.specs.Arrays.{course_in}
 use Rattle.incidence.specs.Incidents.{at, lines_in, Holds}
 use Rattle.placement.specs.Placements.{ColumnsOf}
@@ -28,25 +28,25 @@ use Rattle.placement.specs.Courses.{ConnectionsOf, Reaches, course_by}
 use Rattle.incidence.proofs.Insertion.{lines_held}
 use Rattle.ranking.proofs.GraphArrays.{rank_read}
 use Rattle.layout.proofs.Step.{length_parts}
-use Rattle.incidence.proofs.LineSearch.{bottom_fourth, bottom_rows, top_fourth, top_rows}
+use Rattle.incidence.proofs.LineSearch.{bottom_fourth, bottom_rows_lem, top_fourth, top_rows_lem}
 
 -- The ends
 
 module _ {G : StGraph} (R : Ranked G) where
-  pub bottom_reads : {f : Incident} {m r k : ℕ} → k ≡ 0 → Holds (upper G) f (outgoing G k) → m ≡ size G → r ≡ get_or (lines_in f) 3 m → r ≡ bottomLine G
+  pub bottom_reads : {f : Incident} {m r k : ℕ} → k ≡ 0 → Holds (upper G) f (outgoing G k) → m ≡ size G → r ≡ get_or (lines_in f) 3 m → r ≡ bottom_line G
   bottom_reads z h e q = q ∙ rw (lines_held (upper G) h, e, z) (bottom_fourth G R)
 
-  pub top_reads : {f : Incident} {m r k : ℕ} (xs : List ℕ) → k ≡ G.parts - 1 → Holds (at xs) f (incoming G xs k) → m ≡ size G → r ≡ get_or (lines_in f) 3 m → r ≡ topLine G
+  pub top_reads : {f : Incident} {m r k : ℕ} (xs : List ℕ) → k ≡ G.parts - 1 → Holds (at xs) f (incoming G xs k) → m ≡ size G → r ≡ get_or (lines_in f) 3 m → r ≡ top_line G
   top_reads xs z h e q = q ∙ rw (lines_held (at xs) h, e, z) (top_fourth G R xs)
 
   pub ends_read :
-      {e : Connections} {m : ℕ} → m ≡ size G → e.bottom_line ≡ bottomLine G → e.top_line ≡ topLine G
+      {e : Connections} {m : ℕ} → m ≡ size G → e.bottom_line ≡ bottom_line G → e.top_line ≡ top_line G
       → e.bottom_rows ≡ one_if (ltb e.bottom_line m) → e.top_rows ≡ one_if (ltb e.top_line m) → ConnectionsOf G e
   ends_read q b t d r = record {
-    bottom_rows = d ∙ rw (b, q) (sym (bottom_rows G R));
-    top_rows = r ∙ rw (t, q) (sym (top_rows G R));
-    bottom_line = b;
-    top_line = t;
+    bottom_rows_lem = d ∙ rw (b, q) (sym (bottom_rows_lem G R));
+    top_rows_lem = r ∙ rw (t, q) (sym (top_rows_lem G R));
+    bottom_line_lem = b;
+    top_line_lem = t;
   }
 
 -- A course
@@ -66,11 +66,11 @@ course_made e c ps f l x h t = course_same f l x h t
 
 course_reads :
     {e : Connections} {ps : List ℕ} (c : PlacedCable) (G : StGraph) → ps ≡ (columns G G.parts).parts → ConnectionsOf G e → c.lower.0 ≡ lower G c.line
-    → c.upper.0 ≡ upper G c.line → c.column ≡ get_or (columns G G.parts).cables c.line 0 → course_by ps e c ≡ courseOf G c.line
-unfolding course_by courseOf course partSpot row
+    → c.upper.0 ≡ upper G c.line → c.column ≡ get_or (columns G G.parts).cables c.line 0 → course_by ps e c ≡ course_of G c.line
+unfolding course_by course_of course part_spot row
 course_reads {e} {ps} c G p h q r s =
     let n : length ps ≡ G.parts = ap length p ∙ length_parts G G.parts in
-    rw (n, p, h.bottom_rows, h.bottom_line, h.top_line, q, r, s)
+    rw (n, p, h.bottom_rows_lem, h.bottom_line_lem, h.top_line_lem, q, r, s)
 
 -- The cable at line i, of arrays
 
@@ -86,7 +86,7 @@ module _
     column_read = sym (get_or-take g.cables c.cables i 0 b) ∙ ap (λ (l : List ℕ). get_or l i 0) s.cables
 
     pub cable_reaches : (n : ℕ) → g.cables ≡ size (graph_in g) → g.parts ≡ n → Reaches n e cable_at
-    unfolding bottomRows
+    unfolding bottom_rows
     cable_reaches n f p =
         let u = v.ranked.rises i (omega arith) in
         let w = v.ranked.inside i (omega arith) in
@@ -94,8 +94,8 @@ module _
           lower_part_lem = omega (arith, rank_read g.cables g.lower i b);
           upper_part_lem = omega (arith, rank_read g.cables g.upper i b);
           most = omega (arith, v.most);
-          below = omega (arith, h.bottom_rows, one_if_le (eqb (length (lines_at (size (graph_in g)) (lower (graph_in g)) 0)) 4));
+          below = omega (arith, h.bottom_rows_lem, one_if_le (eqb (length (lines_at (size (graph_in g)) (lower (graph_in g)) 0)) 4));
         }
 
-    pub cable_course : {r : code-course.Course} → course_in r ≡ course_by (take g.parts c.parts) e cable_at → course_in r ≡ courseOf (graph_in g) i
+    pub cable_course : {r : code-course.Course} → course_in r ≡ course_by (take g.parts c.parts) e cable_at → course_in r ≡ course_of (graph_in g) i
     cable_course t = t ∙ course_reads cable_at (graph_in g) s.parts h (rank_read g.cables g.lower i b) (rank_read g.cables g.upper i b) column_read

@@ -17,7 +17,7 @@ use Rattle.drawing.specs.Sheet.{sheet_words}
 use Rattle.placement.specs.declared.Course as code-course
 use Rattle.placement.specs.declared.Layout.{Layout}
 use Rattle.layout.specs.Columns.{columns}
-use Rattle.layout.specs.Points.{Course, points_of, row, partSpot, rankSpot}
+use Rattle.layout.specs.Points.{Course, points_of, row, part_spot, rank_spot}
 use Rattle.layout.specs.Layout.{drawn_in, layout}
 use Rattle.layout.specs.Over.{courses_cross}
 use Rattle.layout.specs.Courses.{LengthFits}
@@ -50,7 +50,7 @@ module _ (l : Layout) (L : IsLayout l) where
   column_at_lem k h = ap (λ (xs : List ℕ). get_or xs k 0) (sym L.columns.parts) ∙ get_or-take l.graph.parts l.columns.parts k 0 h
 
   pub spot_at_lem : (k : ℕ) → k < l.graph.parts → spot_of (layout_in l) k ≡ spot_at (get_or l.columns.parts k 0) (l.bottom_rows + k)
-  unfolding rankSpot partSpot row
+  unfolding rank_spot part_spot row
   spot_at_lem k h = spot_of_lem G k h ∙ ap₂ spot_at (column_at_lem k h) (ap (λ (d : ℕ). d + k) (sym L.bottom))
 
   pub bottom_small : l.bottom_rows ≤ 1

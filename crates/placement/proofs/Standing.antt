@@ -23,7 +23,7 @@ use Rattle.ports.specs.Placements.{PlacementIs, Stands}
 use Rattle.incidence.proofs.Insertion.{lines_held, keys_held}
 use Rattle.layout.proofs.Ports.{all_out}
 use Rattle.incidence.proofs.Few.{outs_four}
-use Rattle.layout.proofs.Step.{cable, part, width, takenColumn, outs, ins, lefts, rights, length_incoming, length_cables, degree}
+use Rattle.layout.proofs.Step.{cable, part, width, taken_column, outs, ins, lefts, rights, length_incoming, length_cables, degree}
 use Rattle.layout.proofs.Bounds.{Small, small, taken_column_le, lefts_le, rights_le}
 use Rattle.layout.proofs.Drawings.{complete}
 use Rattle.placement.proofs.Opening.{row_length, line_below, opened_cables}
@@ -46,7 +46,7 @@ standing_same e f g h = cc
 -- Where rank k stands
 
 abbrev pub StandsAt : StGraph → ℕ → Placement → Type 0
-StandsAt G k p = PlacementIs (takenColumn G k) (lefts G k) (rights G k) (out_ports (ins G k) (outs G k)) p
+StandsAt G k p = PlacementIs (taken_column G k) (lefts G k) (rights G k) (out_ports (ins G k) (outs G k)) p
 
 module _ {g : Graph} (v : GraphFits g) {k : ℕ} {c : code-columns.Columns} (s : ColumnsOf g k c) where
   module _ {i o : Incident} (hi : Holds (at (take g.cables c.cables)) i (incoming (graph_in g) (take g.cables c.cables) k))
@@ -63,7 +63,7 @@ module _ {g : Graph} (v : GraphFits g) {k : ℕ} {c : code-columns.Columns} (s :
     has_drawing b = rw (ins_count, outs_count) (complete (graph_in g) v.ranked k v.least b).depicted
 
     pub stands : {p : Placement} → Stands (keys_in i) (in_ports i.count) (out_ports i.count o.count) p → StandsAt (graph_in g) k p
-    unfolding takenColumn taken lefts rights
+    unfolding taken_column taken lefts rights
     stands e =
         let h : Holds (at (columns (graph_in g) k).cables) i (incoming (graph_in g) (columns (graph_in g) k).cables k) = rw s.cables at hi in
         record {
@@ -120,7 +120,7 @@ module _ {g : Graph} (v : GraphFits g) (k : ℕ) {p : Placement} (q : StandsAt (
       → take g.cables ys ≡ set_each (lines_in o) (port_columns p) (map (moved_by p) (take g.cables c.cables))
       → take (k + 1) qs ≡ map (moved_by p) (take k c.parts) ++ (p.column + p.left) ∷ []
       → ColumnsOf g (k + 1) (record { cables = ys; parts = qs; count = c.count + p.left + p.right })
-  unfolding columns step opening takenColumn lefts rights ins outs
+  unfolding columns step opening taken_column lefts rights ins outs
   columns_next s hy hq =
       let G = graph_in g in
       rw add-one

@@ -7,7 +7,7 @@ use Rattle.placement.specs.declared.Layout.{Layout}
 use Rattle.drawing.specs.Drawing.{Drawing}
 use Rattle.layout.specs.Layout as drawn
 use Rattle.placement.specs.Placements.{ColumnsOf}
-use Rattle.layout.specs.Points.{Course, bottomRows, topRows, courseOf}
+use Rattle.layout.specs.Points.{Course, bottom_rows, top_rows, course_of}
 
 abbrev pub course_in : code-course.Course → Course
 course_in c = record { from = spot_in c.from; low = c.low; column = c.column; high = c.high; to = spot_in c.to }
@@ -20,9 +20,9 @@ no_course = record { from = record { x = 0; y = 0 }; low = 0; column = 0; high =
 pub record IsLayout (l : Layout) : Type 0 where
   pub fits : GraphFits l.graph
   pub columns : ColumnsOf l.graph l.graph.parts l.columns
-  pub bottom : l.bottom_rows ≡ bottomRows (graph_in l.graph)
-  pub top : l.top_rows ≡ topRows (graph_in l.graph)
-  pub courses : (i : ℕ) → i < l.graph.cables → course_in (get_or l.courses i no_course) ≡ courseOf (graph_in l.graph) i
+  pub bottom : l.bottom_rows ≡ bottom_rows (graph_in l.graph)
+  pub top : l.top_rows ≡ top_rows (graph_in l.graph)
+  pub courses : (i : ℕ) → i < l.graph.cables → course_in (get_or l.courses i no_course) ≡ course_of (graph_in l.graph) i
 
 -- the drawing of a layout, whose parts are numbered by rank
 abbrev pub layout_in : Layout → Drawing

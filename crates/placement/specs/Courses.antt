@@ -3,17 +3,17 @@ use Rattle.std.specs.Prelude.{ℕ, ◌+◌, ◌<◌, ◌≤◌, ◌≡◌, cond,
 use Rattle.words.specs.Limits.{most_parts}
 use Rattle.geometry.specs.Spots.{spot_at}
 use Rattle.order.specs.Graph.{StGraph}
-use Rattle.layout.specs.Columns.{bottomLine, topLine}
-use Rattle.layout.specs.Points.{Course, bottomRows, topRows}
+use Rattle.layout.specs.Columns.{bottom_line, top_line}
+use Rattle.layout.specs.Points.{Course, bottom_rows, top_rows}
 use Rattle.placement.specs.declared.connections.Connections.{Connections}
 use Rattle.placement.specs.declared.courses.PlacedCable.{PlacedCable}
 
 -- what the courses of the graph's cables share
 pub record ConnectionsOf (G : StGraph) (e : Connections) : Type 0 where
-  pub bottom_rows : e.bottom_rows ≡ bottomRows G
-  pub top_rows : e.top_rows ≡ topRows G
-  pub bottom_line : e.bottom_line ≡ bottomLine G
-  pub top_line : e.top_line ≡ topLine G
+  pub bottom_rows_lem : e.bottom_rows ≡ bottom_rows G
+  pub top_rows_lem : e.top_rows ≡ top_rows G
+  pub bottom_line_lem : e.bottom_line ≡ bottom_line G
+  pub top_line_lem : e.top_line ≡ top_line G
 
 -- the cable's parts are among the n whose columns are given, and its rows are within 16 bits
 pub record Reaches (n : ℕ) (e : Connections) (c : PlacedCable) : Type 0 where

@@ -6,7 +6,7 @@ use Rattle.placement.specs.declared.Columns as code-columns
 use Rattle.incidence.specs.declared.incident.Incident.{Incident}
 use Rattle.ports.specs.declared.figures.Port as code-port
 use Rattle.ports.specs.declared.figures.Placement.{Placement}
-use Rattle.layout.specs.Ports.{Port, left, below, right, port_column}
+use Rattle.layout.specs.Ports.{port_column}
 use Rattle.layout.specs.Columns.{moved, columns}
 use Rattle.ports.specs.Placements.{port_in, ports_in}
 

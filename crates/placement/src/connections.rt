@@ -1,7 +1,7 @@
 // The bottom and the top connection, and the rows that they take.
 ghost use Rattle.std.specs.Prelude.{◌≡◌};
 ghost use Rattle.ranking.specs.Arrays.{graph_in, GraphFits};
-ghost use Rattle.layout.specs.Columns.{bottomLine, topLine};
+ghost use Rattle.layout.specs.Columns.{bottom_line, top_line};
 ghost use Rattle.placement.specs.Placements.{ColumnsOf};
 ghost use Rattle.placement.specs.Courses.{ConnectionsOf};
 
@@ -13,7 +13,7 @@ use ranking::Graph;
 use words::Rank;
 
 // What all courses share: d and e of document 01, and the lines at the bottom and at the top connection.
-#[derive(Drop)]
+#[derive(Clone, Copy)]
 pub struct Connections {
     pub bottom_rows: u16,
     pub top_rows: u16,
@@ -25,7 +25,7 @@ pub struct Connections {
 // four.
 fn bottom_line(graph: Graph) -> usize
     requires { GraphFits graph }
-    ensures { result ≡ bottomLine (graph_in graph) }
+    ensures { result ≡ bottom_line (graph_in graph) }
 {
     fourth_or(outgoing_cables(graph, Rank::of(0)), graph.cables)
 }
@@ -34,7 +34,7 @@ fn bottom_line(graph: Graph) -> usize
 // fewer than four.
 fn top_line(graph: Graph, columns: Columns) -> usize
     requires { GraphFits graph }
-    ensures { result ≡ topLine (graph_in graph) }
+    ensures { result ≡ top_line (graph_in graph) }
 {
     let cables = columns.cables;
     let last = Rank::of((graph.parts - 1) as u16);

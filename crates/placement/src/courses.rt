@@ -2,7 +2,7 @@
 ghost use Rattle.std.specs.Prelude.{◌≡◌, ℕ, ◌+◌, ◌<◌, length, get_or};
 ghost use Rattle.ranking.specs.Arrays.{graph_in, GraphFits};
 ghost use Rattle.geometry.specs.Spots.{spot_at, spot_in};
-ghost use Rattle.layout.specs.Points.{courseOf};
+ghost use Rattle.layout.specs.Points.{course_of};
 ghost use Rattle.placement.specs.Arrays.{course_in, no_course};
 ghost use Rattle.incidence.specs.Incidents.{at};
 ghost use Rattle.placement.specs.Placements.{ColumnsOf};
@@ -17,7 +17,7 @@ use words::Rank;
 use words::limits::MOST_CABLES;
 
 // A cable: its line, the ranks of its lower and its upper part, and its column.
-#[derive(Drop)]
+#[derive(Clone, Copy)]
 pub struct PlacedCable {
     pub line: usize,
     pub lower: Rank,
@@ -82,7 +82,7 @@ pub fn courses_of(graph: Graph, columns: Columns, connections: Connections) -> [
     requires graph_fits { GraphFits graph }
     requires columns_of { ColumnsOf graph graph.parts columns }
     requires connections_of { ConnectionsOf (graph_in graph) connections }
-    ensures { (i : ℕ) → i < graph.cables → course_in (get_or result i no_course) ≡ courseOf (graph_in graph) i }
+    ensures { (i : ℕ) → i < graph.cables → course_in (get_or result i no_course) ≡ course_of (graph_in graph) i }
 {
     let lower = graph.lower;
     let upper = graph.upper;

@@ -1,4 +1,6 @@
 // The layout of a station's cables in ranks: the columns of parts and cables, and the course of each cable.
+#![tactic(auto)]
+
 use geometry::Spot;
 use ranking::Graph;
 use words::limits::{MOST_CABLES, MOST_PARTS};
@@ -12,7 +14,7 @@ ghost use Rattle.ranking.specs.Arrays.{GraphFits};
 ghost use Rattle.placement.specs.Arrays.{IsLayout};
 
 // A cable's course: its two parts' spots, its lower and its upper lane, and its column.
-#[derive(Drop)]
+#[derive(Clone, Copy)]
 pub struct Course {
     pub from: Spot,
     pub low: u16,
@@ -22,7 +24,7 @@ pub struct Course {
 }
 
 // The column of each cable by line and of each part by rank, and the count of columns.
-#[derive(Drop)]
+#[derive(Clone, Copy)]
 pub struct Columns {
     pub cables: [u16; MOST_CABLES],
     pub parts: [u16; MOST_PARTS],
@@ -30,7 +32,7 @@ pub struct Columns {
 }
 
 // The layout of a graph: its columns, document 01's d and e, and the course of each cable by line.
-#[derive(Drop)]
+#[derive(Clone, Copy)]
 pub struct Layout {
     pub graph: Graph,
     pub columns: Columns,

@@ -9,7 +9,7 @@ ghost use Rattle.ports.specs.Placements.{PlacementIs, Stands, port_in, port_row}
 use incidence::incident::Incident;
 
 // The port by which an outgoing cable leaves its part.
-#[derive(Drop)]
+#[derive(Clone, Copy)]
 pub enum Port {
     Left,
     Above,
@@ -18,7 +18,7 @@ pub enum Port {
 }
 
 // The first `count` of four ports.
-#[derive(Drop)]
+#[derive(Clone, Copy)]
 pub struct PortRow {
     pub count: u16,
     pub first: Port,
@@ -28,7 +28,7 @@ pub struct PortRow {
 }
 
 // Where a part stands.
-#[derive(Drop)]
+#[derive(Clone, Copy)]
 pub struct Placement {
     pub column: u16,
     pub left: u16,

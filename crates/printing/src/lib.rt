@@ -1,4 +1,6 @@
 // The sheet program from input bytes to output bytes.
+#![tactic(auto)]
+
 ghost use Rattle.std.specs.Prelude.{◌≡◌, ◌++◌, ◌+◌, ◌*◌, ◌/◌, ◌≤◌, length, take, drop};
 ghost use Rattle.lists.specs.Stores.{Stored};
 ghost use Rattle.hookup.specs.Options.{plain};
@@ -18,7 +20,7 @@ pub const MOST_BYTES: usize = 65536;
 pub const ROOM: usize = MOST_WORDS;
 
 // What a file is: above 65,536 bytes, ending inside a word, or so many words.
-#[derive(Drop)]
+#[derive(Clone, Copy)]
 pub enum Loaded {
     TooLarge,
     Broken,

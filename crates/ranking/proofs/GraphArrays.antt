@@ -3,7 +3,7 @@
 use Prim.Native.Nat.{ℕ, ◌<◌}
 use native.Mathlib.Omega.{arith}
 use mathlib.Core.Path.{◌≡◌, sym, ◌∙◌}
-use mathlib.Core.List.{List, map}
+use mathlib.Core.List.{List}
 use lib.ListN.{length, get_or, take, length-map}
 use lib.Seq.{length-take-le, get_or-take}
 use mir.Val.{Val}
@@ -11,7 +11,6 @@ use denote.Laws.{Is}
 use denote.Struct.Declared.{row}
 use Rattle.words.specs.Limits.{most_cables}
 use Rattle.words.specs.declared.Rank.{Rank}
-use Rattle.words.specs.contracts.Rank as of-rank
 use Rattle.order.specs.Graph.{size}
 use Rattle.ranking.specs.declared.Graph.{Graph}
 use Rattle.ordering.specs.Numbers.{rank_numbers}
@@ -25,13 +24,13 @@ rank_read m ranks i h = rank_number ranks i ∙ sym (get_or-take m (rank_numbers
 
 -- what the code knows of a graph that it is handed, by its type: the array of lower ranks has its length
 abbrev pub AllPlaces : Graph → Type 0
-AllPlaces g = length (map (of-rank.the_type).to g.lower) ≡ most_cables
+AllPlaces g = length g.lower ≡ most_cables
 
 module _ {g : Graph} (v : GraphFits g) where
   pub lines_are : AllPlaces g → g.cables ≡ size (graph_in g)
   unfolding rank_numbers
   lines_are room =
-      let long : length (rank_numbers g.lower) ≡ most_cables = length-map g.lower (λ (k : Rank). k.0) ∙ sym (length-map g.lower (of-rank.the_type).to) ∙ room in
+      let long : length (rank_numbers g.lower) ≡ most_cables = length-map g.lower (λ (k : Rank). k.0) ∙ room in
       sym (length-take-le g.cables (rank_numbers g.lower) (omega (arith, v.cables)))
 
   pub lines_count : {vs : List Val} → Is (row of-graph.the_type) g vs → g.cables ≡ size (graph_in g)

@@ -1,4 +1,6 @@
 // Checks 1 to 10 of a list and the order of its parts (document 01, 'The order of parts') in one call, and the cables in ranks.
+#![tactic(auto)]
+
 use checks::Verdict;
 use listing::{check_list, fields};
 use lists::Found;
@@ -25,14 +27,14 @@ ghost use Rattle.order.specs.Orientation.{graph_of};
 ghost use Rattle.ranking.specs.Arrays.{graph_in};
 
 // The order, by part and by rank: 'arrays .. for rank by part, part by rank', with an entry for each part that a station may have.
-#[derive(Drop)]
+#[derive(Clone, Copy)]
 pub struct Ranking {
     pub rank: [Rank; MOST_PARTS],
     pub part: [Part; MOST_PARTS],
 }
 
 // The cables of a station in ranks, by line: those of each cable's lower and upper part.
-#[derive(Drop)]
+#[derive(Clone, Copy)]
 pub struct Graph {
     pub parts: usize,
     pub cables: usize,
@@ -41,7 +43,7 @@ pub struct Graph {
 }
 
 // What checks 1 to 10 say of a list, and the order of its parts where they pass: an enum cannot hold the arrays.
-#[derive(Drop)]
+#[derive(Clone, Copy)]
 pub struct CheckedRanking {
     pub verdict: Verdict,
     pub ranking: Ranking,

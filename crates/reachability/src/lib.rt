@@ -1,4 +1,6 @@
 // Which parts reach which: the adjacency table of a list's cables, walks among the parts, and checks 9 and 10 in code.
+#![tactic(auto)]
+
 use adjacency::Table;
 use listing::fields;
 use lists::Found;

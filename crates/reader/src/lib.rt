@@ -1,4 +1,6 @@
 // The words of a sheet held against the layout (request 2026-09, 19): by position, one after the other.
+#![tactic(auto)]
+
 ghost use Rattle.std.specs.Prelude.{◌≡◌, ◌+◌, ◌<◌, ◌≤◌, length, get_or};
 ghost use Rattle.checks.specs.Checks.{Clear};
 ghost use Rattle.station.specs.Station.{station_of};

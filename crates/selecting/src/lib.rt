@@ -1,4 +1,6 @@
 // A chosen cable (request 2026-10): its own words of the lent sheet, and the box around it.
+#![tactic(auto)]
+
 ghost use Rattle.std.specs.Prelude.{◌≡◌, map, ◌<◌, ◌≤◌, length};
 ghost use Rattle.station.specs.Station.{station_of};
 ghost use Rattle.geometry.specs.Spots.{spot_in};

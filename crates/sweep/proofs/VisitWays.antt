@@ -62,7 +62,7 @@ module _ (n : ℕ) (spot : ℕ → Spot) (a b : ℕ) (ps : List Spot) (L : Lone 
   not_end : (k : ℕ) → 0 < k → suc k < length ps → point ps k ≡ s → (s ≡ point ps 0) ⊎ (s ≡ point ps (length ps - 1)) → ⊥
   not_end zero g h e q = absurd (omega arith)
   not_end (suc k) g h e (inl q) =
-      let z = L.own_IsFirst (suc k) h (subst (λ (t : Spot). OnRun ps (suc k) t) (e ∙ q ∙ L.starts) (start_on ps (suc k))) in
+      let z = L.own_first (suc k) h (subst (λ (t : Spot). OnRun ps (suc k) t) (e ∙ q ∙ L.starts) (start_on ps (suc k))) in
       omega arith
   not_end (suc k) g h e (inr q) =
       let r = e ∙ q ∙ L.ends (length ps - 1) (omega arith) in

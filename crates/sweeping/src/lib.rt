@@ -1,5 +1,7 @@
 // The lines of a sheet that break the rules (request 2026-09), found by a sweep over the rows of its head: in each row every spot of a line
 // is visited once, and two tables by column tell what was there before. In the field's terms it is a sweep line over rectilinear paths.
+#![tactic(auto)]
+
 use crate::rows::sweep_rows;
 use crate::spans::find_spans;
 use boards::{ALONE_PLACES, LOWEST, PAIR_PLACES};

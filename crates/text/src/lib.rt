@@ -1,3 +1,5 @@
 // Words read from bytes, and lines of text written as bytes.
+#![tactic(auto)]
+
 pub mod bytes;
 pub mod lines;

@@ -1,5 +1,7 @@
 // A sheet held against its list (request 2026-09): checks 1 to 10 of the list, then 19, the layout of the sheet's words, then 20, the rules
 // for its lines. Nothing is written.
+#![tactic(auto)]
+
 ghost use Rattle.validation.specs.Outcome.{Validates};
 
 use checks::Verdict;

@@ -417,8 +417,8 @@ module _ (list sheet : List ℕ) (pass : Clear all_checks list) where
 
 module _ (list sheet : List ℕ) where
   -- the checks of the sheet
-  abbrev lastChecks : List Check
-  lastChecks =
+  abbrev last_checks : List Check
+  last_checks =
       record { number = 19; finds = λ l. check19 (station_of l).parts (length (station_of l).cables) sheet }
       ∷ record { number = 20; finds = λ l. check20 (station_of l) sheet }
       ∷ []
@@ -426,7 +426,7 @@ module _ (list sheet : List ℕ) where
   -- a refusal of the list is the answer
   pub list_refuses : (check place : ℕ) → first_refusal all_checks list ≡ Refused check place → sheet_verdict list sheet ≡ Refused check place
   unfolding sheet_verdict sheet_checks
-  list_refuses check place h = refused_before list all_checks lastChecks check place h
+  list_refuses check place h = refused_before list all_checks last_checks check place h
 
   -- else 19 and then 20 decide
   module _ (pass : Clear all_checks list) where
@@ -435,7 +435,7 @@ module _ (list sheet : List ℕ) where
         ≡ or_else 19 (check19 (station_of list).parts (length (station_of list).cables) sheet)
         (or_else 20 (check20 (station_of list) sheet) Passed)
     unfolding sheet_verdict sheet_checks first_refusal
-    sheet_decides = rest_decides list all_checks lastChecks pass
+    sheet_decides = rest_decides list all_checks last_checks pass
 
     pub layout_refuses :
         (place : ℕ) → check19 (station_of list).parts (length (station_of list).cables) sheet ≡ At place
@@ -459,10 +459,10 @@ module _ (list sheet : List ℕ) where
       × (check20 (station_of list) sheet ≡ Nothing)
   unfolding sheet_verdict sheet_checks
   passed_all h =
-      let t = clear_rest list all_checks lastChecks h in (
-        clear_prefix list all_checks lastChecks h,
-        clear_each list lastChecks t (Memᴰ.head refl),
-        clear_each list lastChecks t (Memᴰ.tail (Memᴰ.head refl)),
+      let t = clear_rest list all_checks last_checks h in (
+        clear_prefix list all_checks last_checks h,
+        clear_each list last_checks t (Memᴰ.head refl),
+        clear_each list last_checks t (Memᴰ.tail (Memᴰ.head refl)),
       )
 
   -- an answer that is the verdict accepts exactly what is to be accepted

@@ -1,8 +1,8 @@
 -- What the values of a layout say of its drawing as it is spaced and numbered by part, and of its lengths and prices. Assumes nothing.
-use Prim.Native.Nat.{ℕ, ◌+◌, ◌-◌, ◌*◌, ◌<◌, ◌≤◌}
+use Prim.Native.Nat.{ℕ, ◌+◌, ◌*◌, ◌<◌, ◌≤◌}
 use native.Mathlib.Omega.{arith}
 use mathlib.Core.Path.{◌≡◌, sym, ap, subst, ◌∙◌}
-use mathlib.Core.List.{map}
+use mathlib.Core.List.{List, map}
 use lib.ListN.{length, get_or}
 use Rattle.lists.proofs.Sums.{sum_le}
 use Rattle.prices.specs.Quote.{cable_price}
@@ -24,18 +24,19 @@ use Rattle.drawing.specs.Sheet.{route_words}
 use Rattle.drawing.proofs.Lengths.{lengths_count, length_at}
 use Rattle.drawing.proofs.Spaced.{Increases, passed_13, increases, parts_spaced, spot_spaced, corners_spaced}
 use Rattle.drawing.proofs.Renumbered.{Names, parts_renumbered, spot_renumbered}
-use Rattle.placement.specs.declared.Course as code-course
 use Rattle.placement.specs.declared.Layout.{Layout}
-use Rattle.layout.specs.Columns.{columns}
 use Rattle.layout.specs.Points.{Course, points_of, corners_of}
 use Rattle.layout.specs.Courses.{spaced_course, CourseFits}
 use Rattle.placement.specs.Arrays.{course_in, IsLayout, layout_in}
-use Rattle.ranking.proofs.GraphArrays as of-graph
 use Rattle.layout.proofs.SpacedCourses.{corners_of_spaced}
 use Rattle.layout.proofs.Drawn.{route_at_lem, length_most, rank_column, rank_row, column_fits, row_fits, course_fits}
 use Rattle.placement.proofs.Layouts.{course_at, AllPlaces, column_at_lem, inside, part_count, route_count, length_small, length_is}
 use Rattle.writer.specs.Values.{numbered_in, Fits}
-use Rattle.writer.proofs.Sections.{lengthBefore}
+use Rattle.writer.proofs.Sections.{length_before}
+
+-- the run lengths of a layout
+abbrev pub runs : Layout → List ℕ
+runs l = cable_lengths (layout_in l)
 
 -- a spacing that passed check 13
 spacing_increases : (s : Spacing) {d : Drawing} → Fits s d → Increases s
@@ -77,7 +78,7 @@ module _ (l : Layout) (L : IsLayout l) where
           ∙ ap (map (spaced_spot s)) (ap corners_of (L.courses i h) ∙ sym (ap (λ (r : Route). r.corners) (route_at_lem G i (inside l L room i h))))
           ∙ sym (corners_spaced s (layout_in l) i (omega (arith, route_count l L room))))
 
-    pub lengths_small : (k : ℕ) → k ≤ l.graph.cables → lengthBefore (layout_in l) k ≤ k * most_field
+    pub lengths_small : (k : ℕ) → k ≤ l.graph.cables → length_before (layout_in l) k ≤ k * most_field
     lengths_small k h = sum_le _ k most_field (λ i g. let f : i < l.graph.cables = omega arith in omega (arith, length_is l L room i f, (length_small l L room i f).length))
 
     -- Prices

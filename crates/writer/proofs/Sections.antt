@@ -46,27 +46,27 @@ module _ (d : Drawing) where
   head_as e f g = rw (e, f, g) refl
 
   -- the parts from part p on
-  abbrev pub partsFrom : ℕ → List ℕ
-  partsFrom p = map part_spot_word (drop p d.parts)
+  abbrev pub parts_from : ℕ → List ℕ
+  parts_from p = map part_spot_word (drop p d.parts)
 
-  pub parts_next : (p : ℕ) → p < length d.parts → partsFrom p ≡ part_spot_word (spot_of d p) ∷ partsFrom (p + 1)
+  pub parts_next : (p : ℕ) → p < length d.parts → parts_from p ≡ part_spot_word (spot_of d p) ∷ parts_from (p + 1)
   unfolding spot_of
   parts_next p h = rw (add-one, drop-cons d.parts p origin h) refl
 
-  pub parts_end : (p : ℕ) → length d.parts ≤ p → partsFrom p ≡ []
+  pub parts_end : (p : ℕ) → length d.parts ≤ p → parts_from p ≡ []
   parts_end p h = ap (map part_spot_word) (drop_of_length-le d.parts h)
 
   -- the cables from a line on
-  abbrev pub cablesFrom : ℕ → List ℕ
-  cablesFrom line = routes_words line (drop line d.routes)
+  abbrev pub cables_from : ℕ → List ℕ
+  cables_from line = routes_words line (drop line d.routes)
 
-  pub cables_next : (line : ℕ) → line < length d.routes → cablesFrom line ≡ route_words line (route_at d line).corners ++ cablesFrom (line + 1)
+  pub cables_next : (line : ℕ) → line < length d.routes → cables_from line ≡ route_words line (route_at d line).corners ++ cables_from (line + 1)
   unfolding routes_words route_at
   cables_next line h =
       ap (routes_words line) (drop-cons d.routes line no_route h)
       ∙ ap (λ (k : ℕ). route_words line (get_or d.routes line no_route).corners ++ routes_words (line + 1) (drop k d.routes)) (sym (add-one line))
 
-  pub cables_end : (line : ℕ) → length d.routes ≤ line → cablesFrom line ≡ []
+  pub cables_end : (line : ℕ) → length d.routes ≤ line → cables_from line ≡ []
   unfolding routes_words
   cables_end line h = ap (routes_words line) (drop_of_length-le d.routes h)
 
@@ -84,16 +84,16 @@ module _ (d : Drawing) where
       ∙ ap₂ (λ (z k : ℕ). z ∷ drop k words) e (sym (add-one line))
 
   -- the length of all lines before a line
-  abbrev pub lengthBefore : ℕ → ℕ
-  lengthBefore line = sum (tabulate line (λ i. line_length (points_at d i)))
+  abbrev pub length_before : ℕ → ℕ
+  length_before line = sum (tabulate line (λ i. line_length (points_at d i)))
 
-  pub before_first : 0 ≡ lengthBefore 0
+  pub before_first : 0 ≡ length_before 0
   before_first = sym (sum_tabulate_zero (λ i. line_length (points_at d i)))
 
-  pub before_next : (line : ℕ) → lengthBefore (line + 1) ≡ lengthBefore line + line_length (points_at d line)
-  before_next line = ap lengthBefore (add-one line) ∙ sum_tabulate (λ i. line_length (points_at d i)) line
+  pub before_next : (line : ℕ) → length_before (line + 1) ≡ length_before line + line_length (points_at d line)
+  before_next line = ap length_before (add-one line) ∙ sum_tabulate (λ i. line_length (points_at d i)) line
 
-  pub lengths_last : (line : ℕ) → line ≡ length d.routes → lengths_from line ≡ total_length_word (lengthBefore line) ∷ []
+  pub lengths_last : (line : ℕ) → line ≡ length d.routes → lengths_from line ≡ total_length_word (length_before line) ∷ []
   unfolding lengths_section cable_lengths
   lengths_last line e =
       let words : List ℕ = length_words (cable_lengths d) in
@@ -101,7 +101,7 @@ module _ (d : Drawing) where
       let n : length words ≡ suc line = omega (arith, length_words_length (cable_lengths d)) in
       drop-cons words line 0 (omega arith)
       ∙ ap₂ (λ (z : ℕ) (l : List ℕ). z ∷ l)
-      (ap (λ (j : ℕ). get_or words j 0) k ∙ total_at (cable_lengths d) ∙ ap (λ (j : ℕ). total_length_word (lengthBefore j)) (sym e))
+      (ap (λ (j : ℕ). get_or words j 0) k ∙ total_at (cable_lengths d) ∙ ap (λ (j : ℕ). total_length_word (length_before j)) (sym e))
       (drop_of_length-le words {i = suc line} (omega arith))
 
 -- The sections one behind the other

@@ -1,0 +1,13 @@
+-- `reachability::walk::walk_from` meets its contract. Assumes nothing.
+use borrow.Author.Rules.{rules}
+use Rattle.reachability.proofs.Walking.{starting_one, left_one}
+use Rattle.reachability.proofs.walk.walk_from.Goals as goal
+
+pub take_reached-requires : goal.take_reached-requires
+take_reached-requires c = search (starting_one, rules)
+
+pub returns : goal.returns
+returns c = record {
+  result_value = search (left_one, rules);
+  stack_len_2 = search rules;
+}
