@@ -2,6 +2,8 @@
 // given, the discount, the column pitch, the row pitch, the margin, and the list's words, each most significant byte first. Each list is
 // drawn with room to spare, filled with a mark; a sheet also with the exact room and with one word less, a refused list also with no room.
 // Printed are the answers, the sheet's words, and whether what lies behind them is as it was.
+#![tactic(auto)]
+
 ghost use Rattle.std.specs.Prelude.{◌+◌, ◌<◌, length};
 
 use console::{
@@ -9,68 +11,89 @@ use console::{
 };
 use drawing::spacing::Spacing;
 use hookup::{Answer, Options};
+use std::io;
 use words::limits::MOST_QUOTED_WORDS;
 
 // Room to spare for every sheet.
 const ROW: usize = 2 * MOST_QUOTED_WORDS;
 
-fn say_answer(answer: Answer) {
+fn say_answer(rt: &impl Print, answer: Answer) -> io::Result<()> {
     match answer {
         Answer::Sheet { words, crossings } => {
-            say(b"sheet ");
-            say_number(words);
-            say(b" ");
-            say_number(crossings);
-            say(b"\n");
+            say(rt, b"sheet ")?;
+            say_number(rt, words)?;
+            say(rt, b" ")?;
+            say_number(rt, crossings)?;
+            say(rt, b"\n")
         }
-        Answer::Refused { check, place } => say_refused(check, place),
+        Answer::Refused { check, place } => say_refused(rt, check, place),
     }
 }
 
 // The answer for a list with room for so many words of a row.
-fn draw_in(list: &[u32], row: &mut [u32], room: usize, options: Options) {
+fn draw_in(
+    rt: &impl Print,
+    list: &[u32],
+    row: &mut [u32],
+    room: usize,
+    options: Options,
+) -> io::Result<()> {
     if room <= row.len() {
-        say_answer(drafting::draw(list, &mut row[..room], options));
+        say_answer(rt, drafting::draw(list, &mut row[..room], options))?;
     }
+    Ok(())
 }
 
 // A sheet of k words once more, with the exact room.
-fn draw_exact(list: &[u32], first: &[u32], k: usize, options: Options) {
+fn draw_exact(
+    rt: &impl Print,
+    list: &[u32],
+    first: &[u32],
+    k: usize,
+    options: Options,
+) -> io::Result<()> {
     let mut row = [MARK; ROW];
-    draw_in(list, &mut row, k, options);
-    say_same(first, &row);
+    draw_in(rt, list, &mut row, k, options)?;
+    say_same(rt, first, &row)
 }
 
 // A list with room for so many words, which are too few.
-fn draw_short(list: &[u32], room: usize, options: Options) {
+fn draw_short(rt: &impl Print, list: &[u32], room: usize, options: Options) -> io::Result<()> {
     let mut row = [MARK; ROW];
-    draw_in(list, &mut row, room, options);
-    say_kept(&row);
+    draw_in(rt, list, &mut row, room, options)?;
+    say_kept(rt, &row)
 }
 
-fn draw_sheet(list: &[u32], row: &[u32], k: usize, options: Options) {
+fn draw_sheet(
+    rt: &impl Print,
+    list: &[u32],
+    row: &[u32],
+    k: usize,
+    options: Options,
+) -> io::Result<()> {
     if k <= row.len() {
-        say_words(&row[..k]);
-        say_kept(&row[k..]);
-        draw_exact(list, row, k, options);
+        say_words(rt, &row[..k])?;
+        say_kept(rt, &row[k..])?;
+        draw_exact(rt, list, row, k, options)?;
         if 0 < k {
-            draw_short(list, k - 1, options);
+            draw_short(rt, list, k - 1, options)?;
         }
     }
+    Ok(())
 }
 
-fn draw_list(list: &[u32], options: Options) {
+fn draw_list(rt: &impl Print, list: &[u32], options: Options) -> io::Result<()> {
     let mut row = [MARK; ROW];
     let answer = drafting::draw(list, &mut row, options);
-    say_answer(answer);
+    say_answer(rt, answer)?;
     match answer {
         Answer::Sheet {
             words,
             crossings: _,
-        } => draw_sheet(list, &row, words, options),
+        } => draw_sheet(rt, list, &row, words, options),
         Answer::Refused { check: _, place: _ } => {
-            say_kept(&row);
-            draw_short(list, 0, options);
+            say_kept(rt, &row)?;
+            draw_short(rt, list, 0, options)
         }
     }
 }
@@ -91,27 +114,28 @@ fn spacing_at(words: &[u32], at: usize) -> Spacing
 }
 
 // The calls of a file, one behind the other, each list behind its count of words and what is given.
-fn draw_all(words: &[u32]) {
+fn draw_all(rt: &impl Print, words: &[u32]) -> io::Result<()> {
     let mut at = 0;
     while at < words.len() {
         if words.len() - at < 6 {
-            return;
+            return Ok(());
         }
         let k = words[at] as usize;
         let spacing = spacing_at(words, at + 3);
         let options = options_of(words[at + 1], words[at + 2], spacing);
         let start = at + 6;
         if words.len() - start < k {
-            return;
+            return Ok(());
         }
         let end = start + k;
-        draw_list(&words[start..end], options);
+        draw_list(rt, &words[start..end], options)?;
         at = end;
     }
+    Ok(())
 }
 
-fn main() {
+fn main(rt: HostRuntime) -> io::Result<()> {
     let mut words = [0u32; MOST_READ];
-    let count = read_input(&mut words);
-    draw_all(&words[..count]);
+    let count = read_input(&rt, &mut words)?;
+    draw_all(&rt, &words[..count])
 }
