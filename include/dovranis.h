@@ -1,7 +1,7 @@
 /* Hookup sheets from cable lists: the calls for programs in C and C++.
  *
- * Link with target/staticlib/libexports.a, which `rt staticlib exports` proves and writes. It is made for x86-64 and
- * Linux, and needs memcpy and memset and nothing else.
+ * Link with crates/exports/out/libexports.a, which `rt lib` in crates/exports proves and writes. It is made for x86-64
+ * and Linux, and needs memcpy and memset and nothing else.
  *
  * This header says in words what the contracts say and the proofs show. docs/FORMAT.md has the rules in full: the
  * order of the parts, the columns and rows of a sheet, and worked examples.
@@ -96,7 +96,7 @@
  *   23      a line that is m or more                                                      that line
  *
  * Of the lists that pass 1 to 9, check 10 refuses exactly those whose parts have no st-ordering from source to analyser
- * (`passes-iff` in crates/order/proofs/SeparatingParts.antt). A chain of parts between the two passes.
+ * (`passes_iff` in crates/order/proofs/SeparatingParts.antt). A chain of parts between the two passes.
  *
  *   call                          checks, in this sequence
  *   dovranis_draw                         1 to 10,     11
@@ -164,14 +164,14 @@ extern "C" {
 #endif
 
 /* An output of so many words is long enough for the sheet of every list: with it, or with a longer one, 11 never comes
- * (the laws `plain-never-11` and `spaced-never-11`), and a longer one changes no answer (`room-ample` in
+ * (the laws `plain_never_11` and `spaced_never_11`), and a longer one changes no answer (`room_ample` in
  * crates/hookup/proofs/Ample.antt). Some stations need them all. */
 #define DOVRANIS_MOST_WORDS 3590
 
 /* DOVRANIS_MOST_WORDS, for programs that do not read this header. */
 size_t dovranis_most_words(void);
 
-/* The same for sheets that end with a bill (`quoted-never-11`, `quoted-spaced-never-11`). Some stations need them
+/* The same for sheets that end with a bill (`quoted_never_11`, `quoted_spaced_never_11`). Some stations need them
  * all. */
 #define DOVRANIS_MOST_QUOTED_WORDS 4615
 
@@ -248,9 +248,9 @@ uint32_t dovranis_draw_quoted_spaced(const uint32_t *list, size_t list_count, ui
  *
  * The list in a row is the row's first m + 2 words, where m is bits 15 to 0 of its first word, or the whole row where
  * it has fewer. It begins as a head with m = 0 and an ends word. The words behind the list are room for cables and may
- * hold anything: no answer depends on them (`propose-same`, `commit-same` in crates/editor/proofs/Behind.antt). No list
+ * hold anything: no answer depends on them (`propose_same`, `commit_same` in crates/editor/proofs/Behind.antt). No list
  * that passes check 8 has more than 2n cables, so that a row of 2n + 2 words, at most 1,026, has room for every cable
- * that may be added (`always-room` in crates/editor/proofs/Refusals.antt).
+ * that may be added (`always_room` in crates/editor/proofs/Refusals.antt).
  *
  * From a row whose list passes checks 1 to 8, with nothing else writing to it, any run of the two calls, whatever they
  * are given, leaves that list followed by the cables of the commits with result 0, in their sequence, with m raised by
@@ -275,10 +275,10 @@ struct dovranis_proposal {
  *
  * First the list in the row is checked as it is, by 1 to 8: a row of fewer than two words gets 1, and any other of
  * fewer than m + 2 words gets 2 where a word of it is wrong, and else 3. Then the cable gets what the list with this
- * cable as its last word, word m + 2, would get (`among-5-6-8` in crates/editor/proofs/Verdicts.antt): 5 at m + 2 where
+ * cable as its last word, word m + 2, would get (`among_5_6_8` in crates/editor/proofs/Verdicts.antt): 5 at m + 2 where
  * a part number is n or more, however large; 6 at m + 2 where the two are equal; 8 at the lowest of the two that has
  * four cables in the list. That cables of the list join the two already is no refusal. Last comes 16. On a row of the
- * same words the proposal is committed (`fresh-commits` in crates/editor/proofs/Effects.antt). The result, and all that
+ * same words the proposal is committed (`fresh_commits` in crates/editor/proofs/Effects.antt). The result, and all that
  * is stored, depends on the list in the row, on row_count and on the two part numbers alone.
  */
 uint32_t dovranis_propose(const uint32_t *row, size_t row_count, uint32_t one, uint32_t other,
@@ -295,7 +295,7 @@ uint32_t dovranis_propose(const uint32_t *row, size_t row_count, uint32_t one, u
  *
  * Checks 1 to 8 of the list in the row come first, then 15, then those of the cable, and last 16. Once a proposal's
  * cable is added, that proposal and all others of its version get 15 ever after, as long as nothing else writes the row
- * (`laid-once` in crates/editor/proofs/Runs.antt). The result, and all that is stored, depends on the list in the row,
+ * (`laid_once` in crates/editor/proofs/Runs.antt). The result, and all that is stored, depends on the list in the row,
  * on row_count and on the proposal alone.
  */
 uint32_t dovranis_commit(uint32_t *row, size_t row_count, struct dovranis_proposal proposal,
@@ -312,16 +312,16 @@ uint32_t dovranis_commit(uint32_t *row, size_t row_count, struct dovranis_propos
  *
  * The canonical list is the head and the ends as they are, and all m cables, each with its smaller part first, rising
  * by first part, then by second. A cable that is repeated stands as often as in the list. An output of list_count words
- * is always long enough (`list-suffices` in crates/canonical/proofs/Answers.antt). The canonical list passes checks 1
- * to 8 (`canonical-passes` in crates/canonical/proofs/Passes.antt), and its own canonical form is that list again. The
+ * is always long enough (`list_suffices` in crates/canonical/proofs/Answers.antt). The canonical list passes checks 1
+ * to 8 (`canonical_passes` in crates/canonical/proofs/Passes.antt), and its own canonical form is that list again. The
  * result, and all that is stored, depends on the words of the list and on canonical_count alone.
  *
  * Two lists that pass checks 1 to 8 have the same canonical form exactly if they are lists of one station: n, source
- * and analyser are equal, and any two parts are joined by equally many cables, named either way round (`canonical-iff`
+ * and analyser are equal, and any two parts are joined by equally many cables, named either way round (`canonical_iff`
  * in crates/canonical/proofs/Canonical.antt). Such lists get the same result and place from checks 9 and 10, and where
- * they pass, their parts stand in the same order (`same-verdict` and `same-order` in
+ * they pass, their parts stand in the same order (`same_verdict` and `same_order` in
  * crates/canonical/proofs/Orders.antt). On their sheets the head is the same, every part stands on the same spot, the
- * crossings are as many, and there are the same routes from part to part, each as often (`same-drawing` in
+ * crossings are as many, and there are the same routes from part to part, each as often (`same_drawing` in
  * crates/hookup/proofs/SameStations.antt, of the grid; a spacing moves both alike). Lines have other numbers, so that
  * the words of cables, lengths and prices stand in another sequence, and which of two cables between the same two parts
  * is which may differ.
@@ -330,7 +330,7 @@ uint32_t dovranis_canonicalize(const uint32_t *list, size_t list_count, uint32_t
                                size_t canonical_count, size_t *words, size_t *place);
 
 /* An output of so many floats is long enough for the levels of every list: two for each of 512 parts, the most that
- * check 4 lets pass (`most-suffices` in crates/levels/proofs/Answers.antt). There is no function for it. */
+ * check 4 lets pass (`most_suffices` in crates/levels/proofs/Answers.antt). There is no function for it. */
 #define DOVRANIS_MOST_LEVELS 1024
 
 /* Finds the least and the greatest signal level at every part, in dB, or says why list or sorts are sent back. Nothing
@@ -354,7 +354,7 @@ uint32_t dovranis_canonicalize(const uint32_t *list, size_t list_count, uint32_t
  * sum is rounded. Zero is positive zero: 0x80000000 never occurs.
  *
  * 17 looks at all sorts that are lent, also behind the n-th, and 18 at a row that has passed 17. Two lists that pass
- * checks 1 to 8 and have the same canonical form get the same answer (`same-answer` in
+ * checks 1 to 8 and have the same canonical form get the same answer (`same_answer` in
  * crates/levels/proofs/SameStations.antt). The result, and all that is stored, depends on the words of the list, on the
  * sorts and on level_count alone.
  */
@@ -372,7 +372,7 @@ uint32_t dovranis_levels(const uint32_t *list, size_t list_count, const uint32_t
  * parts by number. Then comes each cable by line: a word of kind 6 with that line and a count of corners, and as many
  * words of kind 7. Bits 27 to 24 are zero in kinds 4, 5 and 7. No x is above the width and no y above the height, which
  * may be larger than any of them. Reading stops behind the corners of the last cable: whatever stands there, lengths, a
- * bill or other words, changes no answer, and nothing need stand there (`rest-unread` and `cut-unread` in
+ * bill or other words, changes no answer, and nothing need stand there (`rest_unread` and `cut_unread` in
  * crates/validation/proofs/Unread.antt). The place of a word that is missing is the index where it would stand, which
  * is sheet_count.
  *
@@ -388,7 +388,7 @@ uint32_t dovranis_levels(const uint32_t *list, size_t list_count, const uint32_t
  * With a list that passes checks 1 to 10, a sheet is accepted exactly if its words follow the layout, no point is
  * beyond the head, and all cables are right by themselves and meet rightly (`Accepted` in
  * crates/validation/specs/Outcome.antt; `Validates` has both directions). Every sheet that the calls above draw is
- * accepted with its list, in every spacing, with a bill or without one (`drawn-passed` in
+ * accepted with its list, in every spacing, with a bill or without one (`drawn_passed` in
  * crates/acceptance/proofs/Passing.antt), and so are its words up to the last cable's corners.
  *
  * A cable may have 4,095 corners, so that a sheet may have millions of words. The call goes through the rows of the
@@ -412,9 +412,9 @@ uint32_t dovranis_check_sheet(const uint32_t *list, size_t list_count, const uin
  *
  * A mark at a part's spot gets that part alone, whatever cables end there. Any other mark gets the one cable whose line
  * has the spot, corners too, or the two that cross there, the lower line first, or blank: on a sheet that is accepted
- * no spot but that of a part has three cables, or two that do not cross there (`two-cross` and `no-third` in
- * crates/location/proofs/Sharing.antt), so that there is one right answer and no fifth (`one-answer` there). A mark
- * beyond the head is blank. Each mark is answered as if alone (`as-if-alone` in crates/location/proofs/Locating.antt).
+ * no spot but that of a part has three cables, or two that do not cross there (`two_cross` and `no_third` in
+ * crates/location/proofs/Sharing.antt), so that there is one right answer and no fifth (`one_answer` there). A mark
+ * beyond the head is blank. Each mark is answered as if alone (`as_if_alone` in crates/location/proofs/Locating.antt).
  *
  * The sheet is judged once, as by dovranis_check_sheet; then each mark takes steps in proportion to the words of the
  * sheet at most. The result, and what is stored, depends on the words of the list, on those of the sheet up to the last

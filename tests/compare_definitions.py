@@ -17,9 +17,9 @@ Of the lists that are drawn some third has repeated cables, and some fifth a cut
 check 10. Every list is stated with a length of output, a third of them with a discount and half of them with a spacing, as an
 equation of `outcome`, the definition at the top, with all words, counts, numbers and places that reference.py gives, and proved by
 computation in a copy of the crates. An operation of the editor is stated as an equation of `proposed`, or of `effect` with the row
-that it leaves; a list and a length of output for its canonical form as one of `canonicalOutcome`; a list, a second row and a length
-of output as one of `levelsOutcome`, with the bit patterns of the floats; a list and a sheet as one of `sheetVerdict`.
-A call for marks is stated as an equation of `locateOutcome` and, for its last mark that is answered, of `hitAt`; a call
+that it leaves; a list and a length of output for its canonical form as one of `canonical_outcome`; a list, a second row and a length
+of output as one of `levels_outcome`, with the bit patterns of the floats; a list and a sheet as one of `sheet_verdict`.
+A call for marks is stated as an equation of `locate_outcome` and, for its last mark that is answered, of `hit_at`; a call
 for a cable as one of `selected` or of `bounded`.
 It is no part of the gate."""
 import os
@@ -46,7 +46,7 @@ def numbers(words):
 def options(discount, spacing):
     """What the caller gives, as antt has it."""
     given = 'plain' if discount is None else '(quoted %d)' % discount
-    return given if spacing is None else '(spacedBy %d %d %d %s)' % (*spacing, given)
+    return given if spacing is None else '(spaced_by %d %d %d %s)' % (*spacing, given)
 
 
 def answer(words, room, discount, spacing):
@@ -73,7 +73,7 @@ def due(words, room, *given):
     got = answer(words, room, *given)
     if got[0] == 'sheet':
         return 'written %s %d' % (numbers(got[1]), got[2]), 0
-    return 'sentBack %d %d' % got[1:], got[1]
+    return 'sent_back %d %d' % got[1:], got[1]
 
 
 def rooms(rng, words, *given):
@@ -130,7 +130,7 @@ def checked(crate, text, code, gone):
     below = needed(crate)
     with tempfile.TemporaryDirectory() as top:
         for name in [crate] + below:
-            shutil.copytree(os.path.join(ROOT, 'crates', name), os.path.join(top, 'crates', name), ignore=shutil.ignore_patterns('must-fail'))
+            shutil.copytree(os.path.join(ROOT, 'crates', name), os.path.join(top, 'crates', name), ignore=shutil.ignore_patterns('must-fail', 'out'))
         with open(os.path.join(ROOT, 'crates.txt'), encoding='utf-8') as f:
             rows = [r for r in f.read().split('\n') if r.split(':')[0] in [crate] + below]
         with open(os.path.join(top, 'crates.txt'), 'w', encoding='utf-8') as f:
@@ -151,8 +151,8 @@ def checked(crate, text, code, gone):
         for path, content in files.items():
             with open(os.path.join(folder, path), 'w', encoding='utf-8') as f:
                 f.write(content)
-        r = subprocess.run(['rt', 'check', crate], cwd=top, stdout=subprocess.PIPE, stderr=subprocess.STDOUT, text=True)
-    return sorted(set(re.findall(r'error: `(case-\d+)`', r.stdout))), r.stdout if r.returncode else ''
+        r = subprocess.run(['rt', 'check'], cwd=folder, stdout=subprocess.PIPE, stderr=subprocess.STDOUT, text=True)
+    return sorted(set(re.findall(r'error: `(case_\d+)`', r.stdout))), r.stdout if r.returncode else ''
 
 
 def told(wrong, output, what):
@@ -186,15 +186,15 @@ def main(a):
     given = list(zip(discounts, spacings))
     table = open(os.path.join(ROOT, 'crates/hookup/proofs/Table.antt'), encoding='utf-8').read()
     # of the laws only what opens the definitions is in the copy
-    rows = [row for row in re.findall(r'^use .*$', table, re.M) if 'hookup·proofs' not in row or '.Computing.' in row]
-    uses = imported(rows, 'Options', ['plain', 'quoted', 'spacedBy'])
+    rows = [row for row in re.findall(r'^use .*$', table, re.M) if 'Rattle.hookup.proofs' not in row or '.Computing.' in row]
+    uses = imported(rows, 'Options', ['plain', 'quoted', 'spaced_by'])
     opened = re.search(r'^unfolding (.*)$', table, re.M).group(1)
     text, tally = ['-- Random lists.'] + uses, {}
     for k, words in enumerate(cases):
         room = rooms(rng, words, *given[k])
         right, check = due(words, room, *given[k])
         tally[check] = tally.get(check, 0) + 1
-        text += ['', 'case-%d : outcome %s %s %d ≡ %s' % (k, options(*given[k]), numbers(words), room, right), 'unfolding ' + opened, 'case-%d = refl' % k]
+        text += ['', 'case_%d : outcome %s %s %d ≡ %s' % (k, options(*given[k]), numbers(words), room, right), 'unfolding ' + opened, 'case_%d = refl' % k]
     # what only the code's contracts cite goes with the code
     wrong, output = checked('hookup', text, struct_given, ['Answer'])
     cut = [words for words in cases if reference.fault(words) is None and lists.has_cut_part(words)]
@@ -234,13 +234,13 @@ def editor(a):
     for k, (row, asked) in enumerate(cases):
         equation, number = operation_due(row, asked)
         tally[number] = tally.get(number, 0) + 1
-        text += ['', 'case-%d : %s' % (k, equation), 'unfolding ' + opened, 'case-%d = refl' % k]
+        text += ['', 'case_%d : %s' % (k, equation), 'unfolding ' + opened, 'case_%d = refl' % k]
     wrong, output = checked('editor', text, lambda code: item(code, 'Proposal') + '\n\n' + item(code, 'Proposed') + '\n', [])
     print('%d operations (%s)' % (len(cases), ', '.join('%d %s' % (v, 'not refused' if c == 0 else 'refused by %d' % c) for c, v in sorted(tally.items()))))
     return told(wrong, output, lambda k: '%s on %s' % (cases[k][1], ' '.join('%08x' % w for w in cases[k][0])))
 
 
-# The canonical form: equations of `canonicalOutcome`.
+# The canonical form: equations of `canonical_outcome`.
 
 def faulty(rng):
     """A list that passes checks 1 to 8, with faults."""
@@ -254,8 +254,8 @@ def canonical_due(words, room):
     """The equation of one list, and its number."""
     answer = reference.canonicalize(words, room)
     number = answer[1] if answer[0] == 'refused' else 0
-    right = 'sentBack %d %d' % answer[1:] if number else 'written %s %d' % (numbers(answer[1]), len(answer[1]))
-    return 'canonicalOutcome %s %d ≡ %s' % (numbers(words), room, right), number
+    right = 'sent_back %d %d' % answer[1:] if number else 'written %s %d' % (numbers(answer[1]), len(answer[1]))
+    return 'canonical_outcome %s %d ≡ %s' % (numbers(words), room, right), number
 
 
 def canonical(a):
@@ -267,8 +267,8 @@ def canonical(a):
     cases += [lists.listed(rng, *lists.four_regular(rng, 512), *rng.sample(range(512), 2)) for _ in range(large)]
     table = open(os.path.join(ROOT, 'crates/canonical/proofs/Table.antt'), encoding='utf-8').read()
     # of the laws only what opens the definitions is in the copy, and none of the table's own lists
-    uses = [row for row in re.findall(r'^use .*$', table, re.M) if 'canonical·proofs' not in row or '.Computing.' in row]
-    opened = re.findall(r'\S+-computing', re.search(r'^unfolding (.*)$', table, re.M).group(1))
+    uses = [row for row in re.findall(r'^use .*$', table, re.M) if 'Rattle.canonical.proofs' not in row or '.Computing.' in row]
+    opened = re.findall(r'\w+_computing', re.search(r'^unfolding (.*)$', table, re.M).group(1))
     text, tally = ['-- Random lists.'] + uses, {}
     for k, words in enumerate(cases):
         size = len(words)
@@ -276,7 +276,7 @@ def canonical(a):
         room = rng.choice(around if reference.list_fault(words) is None else [0, 7, 4096])
         equation, number = canonical_due(words, room)
         tally[number] = tally.get(number, 0) + 1
-        text += ['', 'case-%d : %s' % (k, equation), 'unfolding ' + ' '.join(opened), 'case-%d = refl' % k]
+        text += ['', 'case_%d : %s' % (k, equation), 'unfolding ' + ' '.join(opened), 'case_%d = refl' % k]
     wrong, output = checked('canonical', text, lambda code: item(code, 'Canonicalized') + '\n', [])
     print('%d lists, %d of them named, %d with repeated cables (%s)' % (
         len(cases), named, sum(map(lists.has_repeats, cases)),
@@ -284,14 +284,14 @@ def canonical(a):
     return told(wrong, output, lambda k: ' '.join('%08x' % w for w in cases[k]))
 
 
-# Levels: equations of `levelsOutcome`, in bit patterns.
+# Levels: equations of `levels_outcome`, in bit patterns.
 
 def levels_due(words, sorts, room):
     """The equation of one call, and its number."""
     answer = reference.levels(words, sorts, room)
     number = answer[1] if answer[0] == 'refused' else 0
-    right = 'sentBack %d %d' % answer[1:] if number else 'written %s %d' % (numbers(answer[1]), len(answer[1]))
-    return 'inBits (levelsOutcome %s %s %d) ≡ %s' % (numbers(words), numbers(sorts), room, right), number
+    right = 'sent_back %d %d' % answer[1:] if number else 'written %s %d' % (numbers(answer[1]), len(answer[1]))
+    return 'in_bits (levels_outcome %s %s %d) ≡ %s' % (numbers(words), numbers(sorts), room, right), number
 
 
 def levels(a):
@@ -308,8 +308,8 @@ def levels(a):
         cases.append((words, lists.of_gains(*(rng.randint(-6400, 6400) for _ in range(words[0] >> 16 & 0xfff)))))
     table = open(os.path.join(ROOT, 'crates/levels/proofs/Table.antt'), encoding='utf-8').read()
     # of the laws only what opens the definitions is in the copy, and none of the table's own lists
-    uses = [row for row in re.findall(r'^use .*$', table, re.M) if 'levels·proofs' not in row or '.Computing.' in row]
-    opened = re.findall(r'\S+-computing', re.search(r'^unfolding (.*)$', table, re.M).group(1))
+    uses = [row for row in re.findall(r'^use .*$', table, re.M) if 'Rattle.levels.proofs' not in row or '.Computing.' in row]
+    opened = re.findall(r'\w+_computing', re.search(r'^unfolding (.*)$', table, re.M).group(1))
     text, tally = ['-- Random calls.'] + uses, {}
     for k, (words, sorts) in enumerate(cases):
         full = reference.levels(words, sorts)
@@ -317,7 +317,7 @@ def levels(a):
         room = size if k >= len(cases) - large else rng.choice([size, size, size + 1, 4096, size - 1, 0] if size else [0, 7, 4096])
         equation, number = levels_due(words, sorts, room)
         tally[number] = tally.get(number, 0) + 1
-        text += ['', 'case-%d : %s' % (k, equation), 'unfolding ' + ' '.join(opened), 'case-%d = refl' % k]
+        text += ['', 'case_%d : %s' % (k, equation), 'unfolding ' + ' '.join(opened), 'case_%d = refl' % k]
     wrong, output = checked('levels', text, lambda code: '\n\n'.join(item(code, what) for what in ('Levels', 'Sort', 'Levelled')) + '\n', [])
     print('%d calls, %d of them named, %d with repeated cables (%s)' % (
         len(cases), named, sum(lists.has_repeats(words) for words, _ in cases),
@@ -325,7 +325,7 @@ def levels(a):
     return told(wrong, output, lambda k: '%s with %s' % tuple(' '.join('%08x' % w for w in row) for row in cases[k]))
 
 
-# Sheet validation: equations of `sheetVerdict`.
+# Sheet validation: equations of `sheet_verdict`.
 
 MOST_SIDE, MOST_WORDS = 24, 60      # of the sheets that are computed
 LARGE_KINDS = 'up to 4,095', 'larger head'      # of which none or few are so small
@@ -355,22 +355,22 @@ def verdicts(a):
         table = f.read()
     # of the laws only what opens the definitions is in the copy, and none of the table's own sheets
     rows = re.findall(r'^use .*$', table, re.M)
-    uses = [row for row in rows if 'validation·proofs' not in row or '.Computing.' in row]
-    opened = re.findall(r'\S+-computing', re.search(r'^unfolding (.*)$', table, re.M).group(1))
+    uses = [row for row in rows if 'Rattle.validation.proofs' not in row or '.Computing.' in row]
+    opened = re.findall(r'\w+_computing', re.search(r'^unfolding (.*)$', table, re.M).group(1))
     text, answers = ['-- Random sheets.'] + uses, []
     for k, (kind, words, sheet) in enumerate(cases):
         answer = reference.check_sheet(words, sheet)
         answers.append((kind, answer))
         right = 'Refused %d %d' % answer if answer else 'Passed'
-        text += ['', 'case-%d : sheetVerdict %s %s ≡ %s' % (k, numbers(words), numbers(sheet), right),
-                 'unfolding ' + ' '.join(opened), 'case-%d = refl' % k]
+        text += ['', 'case_%d : sheet_verdict %s %s ≡ %s' % (k, numbers(words), numbers(sheet), right),
+                 'unfolding ' + ' '.join(opened), 'case_%d = refl' % k]
     wrong, output = checked('validation', text, lambda code: code, [])
     print('\n'.join(sheets.table(answers)))
     return told(wrong, output, lambda k: '%s: list %s, sheet %s' % (
         cases[k][0], *(' '.join('%08x' % w for w in row) for row in cases[k][1:])))
 
 
-# The screen: equations of `locateOutcome`, `hitAt`, `selected` and `bounded`.
+# The screen: equations of `locate_outcome`, `hit_at`, `selected` and `bounded`.
 
 def screen_calls(rng, count):
     """(list, sheet, marks, room, line): by hand, on those sheets and on random ones."""
@@ -402,10 +402,10 @@ def named_hit(word):
 def screen_due(k, words, sheet, some, room, line):
     """The equations of one call, and its answers. Of the words of a cable and of its box it has one."""
     given, answer = '%s %s' % (numbers(words), numbers(sheet)), reference.locate(words, sheet, some, room)
-    right = 'written %s tt' % numbers(answer[1]) if answer[0] == 'hits' else 'sentBack %d %d' % answer[1:]
-    out = ['locateOutcome %s %s %d ≡ %s' % (given, numbers(some), room, right)]
+    right = 'written %s tt' % numbers(answer[1]) if answer[0] == 'hits' else 'sent_back %d %d' % answer[1:]
+    out = ['locate_outcome %s %s %d ≡ %s' % (given, numbers(some), room, right)]
     if answer[0] == 'hits' and some:
-        out.append('hitAt (stationOf %s) %s (markSpot 0x%x) ≡ %s' % (
+        out.append('hit_at (station_of %s) %s (mark_spot 0x%x) ≡ %s' % (
             numbers(words), numbers(sheet), some[-1], named_hit(answer[1][-1])))
     own = reference.cable_bounds(words, sheet, line) if k % 2 else reference.select_cable(words, sheet, line)
     what, variants = ('bounded', 'box') if k % 2 else ('selected', 'own')
@@ -423,10 +423,10 @@ def screen(a):
     with open(os.path.join(ROOT, 'crates/location/proofs/Table.antt'), encoding='utf-8') as f:
         table = f.read()
     # of the laws only what opens the definitions is in the copy, and none of the table's own sheets
-    rows = [row for row in re.findall(r'^use .*$', table, re.M) if 'location·proofs' not in row or '.Computing.' in row]
-    uses = imported(rows, 'Hits', ['markSpot', 'hitAt'])
-    uses.append('use Rattle·location·specs.specs.declared.Hit.the-variants.{Blank, Part, Cable, Crossing}')
-    opened = re.findall(r'\S+-computing', re.search(r'^unfolding (.*)$', table, re.M).group(1))
+    rows = [row for row in re.findall(r'^use .*$', table, re.M) if 'Rattle.location.proofs' not in row or '.Computing.' in row]
+    uses = imported(rows, 'Hits', ['mark_spot', 'hit_at'])
+    uses.append('use Rattle.location.specs.declared.Hit.TheVariants.{Blank, Part, Cable, Crossing}')
+    opened = re.findall(r'\w+_computing', re.search(r'^unfolding (.*)$', table, re.M).group(1))
     text, of_case, located, chosen, hits = ['-- Random calls.'] + uses, [], [], [], []
     for k, case in enumerate(cases):
         equations, (answer, own) = screen_due(k, *case)
@@ -434,8 +434,8 @@ def screen(a):
         chosen.append(marks.name_of(own))
         hits += [marks.LYING[word >> 24 & 0xf] for word in answer[1]] if answer[0] == 'hits' else []
         for equation in equations:
-            text += ['', 'case-%d : %s' % (len(of_case), equation), 'unfolding ' + ' '.join(opened),
-                     'case-%d = refl' % len(of_case)]
+            text += ['', 'case_%d : %s' % (len(of_case), equation), 'unfolding ' + ' '.join(opened),
+                     'case_%d = refl' % len(of_case)]
             of_case.append((equation, case))
     wrong, output = checked('location', text, lambda code: code, [])
     print('%d calls, %d equations; marks: %s; cables: %s; at the marks %s' % (

@@ -2,7 +2,7 @@
 """Runs the sheet program and reference.py on fresh random lists and on files of every length, and compares what they print.
 
   compare_program.py [COUNT [SEED]]     COUNT lists (default 1000), and a fiftieth as many of 256 to 512 parts; the program is
-                                        target/bin/sheet, made by `rt check sheet`
+                                        crates/sheet/out/sheet, made by `rt run` in crates/sheet
 
 It is no part of the gate."""
 import os
@@ -13,7 +13,7 @@ import sys
 import lists
 import reference
 
-PROGRAM = os.path.join(os.path.dirname(os.path.dirname(os.path.abspath(__file__))), 'target', 'bin', 'sheet')
+PROGRAM = os.path.join(os.path.dirname(os.path.dirname(os.path.abspath(__file__))), 'crates', 'sheet', 'out', 'sheet')
 
 
 def main(a):

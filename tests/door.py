@@ -29,8 +29,9 @@ import sys
 import threading
 
 TOP = os.path.dirname(os.path.dirname(os.path.abspath(__file__)))
-ARCHIVE = os.path.join(TOP, 'target', 'staticlib', 'libexports.a')
-SHARED = os.path.join(TOP, 'target', 'staticlib', 'libexports.so')
+EXPORTS = os.path.join(TOP, 'crates', 'exports')
+ARCHIVE = os.path.join(EXPORTS, 'out', 'libexports.a')
+SHARED = os.path.join(EXPORTS, 'out', 'libexports.so')
 INCLUDE = os.path.join(TOP, 'include')
 HEADER = '#include "dovranis.h"\n'
 
@@ -42,8 +43,8 @@ WARNED = ['-Wall', '-Wextra', '-Wpedantic', '-Werror']
 COMPILERS = (['cc', '-std=c99', '-x', 'c'], ['g++', '-std=c++98', '-x', 'c++'], ['g++', '-std=c++17', '-x', 'c++'])
 
 
-def run(words, **more):
-    got = subprocess.run(words, cwd=TOP, stdout=subprocess.PIPE, stderr=subprocess.STDOUT, text=True, **more)
+def run(words, where=TOP, **more):
+    got = subprocess.run(words, cwd=where, stdout=subprocess.PIPE, stderr=subprocess.STDOUT, text=True, **more)
     if got.returncode:
         sys.exit('%s failed:\n%s' % (' '.join(words[:3]), got.stdout[-2000:]))
     return got.stdout
@@ -51,7 +52,7 @@ def run(words, **more):
 
 def build():
     """Proves what has changed, writes the archive and links all of it as a shared object; the path of that."""
-    run(['rt', 'staticlib', 'exports'])
+    run(['rt', 'lib'], where=EXPORTS)
     run(['cc', '-shared', '-o', SHARED, '-Wl,--whole-archive', ARCHIVE, '-Wl,--no-whole-archive', '-Wl,-z,defs'])
     return SHARED
 

@@ -22,7 +22,7 @@
                                    each rank
   measure.py --stack               as a table: the most bytes of stack that each call takes, and the like in baseline.c, on the stations and
                                    rows of 256 to 512 parts that lists.py names
-  measure.py --program             instructions of the program target/bin/sheet (made by `rt check sheet`) and of baseline.c as a program
+  measure.py --program             instructions of the program crates/sheet/out/sheet (made by `rt run` in crates/sheet) and of baseline.c as a program
   --parts N                        with --functions or --passes: stations of N parts
   --archive FILE                   takes this archive, and neither proves nor builds one; it may be without `dovranis_draw_quoted`, but for --quoted, without
                                    `dovranis_draw_spaced` and `dovranis_draw_quoted_spaced`, but for --spaced, without `dovranis_propose` and
@@ -48,7 +48,7 @@ import reference
 import sheets
 
 HERE = os.path.dirname(os.path.abspath(__file__))
-PROGRAM = os.path.join(door.TOP, 'target', 'bin', 'sheet')
+PROGRAM = os.path.join(door.TOP, 'crates', 'sheet', 'out', 'sheet')
 ROOM = 8192                     # words of output, more than any sheet has
 DISCOUNT = 1250
 SPACING = 7, 6, 20              # column pitch, row pitch, margin: every station here fits
