@@ -151,14 +151,15 @@ module _ {list sheet : List ℕ} {line from to : ℕ} (C : CornersAt list sheet 
 
 -- All cables
 
--- the directions of the cables before cable i are chosen, and all of them alternate
+-- the directions of the cables before cable i are chosen, and all of them alternate; the word of cable i stands at this place
 pub record Choosing (list sheet : List ℕ) (flags : List Bool) (m : ℕ) (forward : List Bool) (at i : ℕ) : Type 0 where
   pub passed : Clear all_checks list
-  pub here : AtCable list sheet at i
+  pub layout : Follows (station_of list).parts (length (station_of list).cables) sheet
   pub lines : m ≡ length (station_of list).cables
   pub long : length forward ≡ length flags
   pub room : most_cables ≤ length forward
   pub few : i ≤ m
+  pub place : at ≡ cable_place (station_of list).parts sheet i
   pub chosen : (j : ℕ) → j < i → get_or forward j false ≡ facing (station_of list) (shown (station_of list) sheet) j
   pub alternate : (j : ℕ) → j < i → alternates_facing (station_of list) (shown (station_of list) sheet) j ≡ true
 
@@ -168,17 +169,21 @@ pub choosing_start :
     → m ≡ length (station_of list).cables → n ≡ (station_of list).parts → Choosing list sheet flags m flags (1 + n) 0
 choosing_start pass follows room e f = record {
   passed = pass;
-  here = cable_first follows f;
+  layout = follows;
   lines = e;
   long = refl;
   room = room;
   few = omega arith;
+  place = (cable_first follows f).place;
   chosen = λ j l. absurd (omega arith);
   alternate = λ j l. absurd (omega arith);
 }
 
 module _ {list sheet : List ℕ} {flags : List Bool} {m : ℕ} {forward : List Bool} {at i : ℕ}
     (I : Choosing list sheet flags m forward at i) where
+  choosing_here : AtCable list sheet at i
+  choosing_here = record { layout = I.layout; place = I.place }
+
   pub choosing_end : m ≤ i → Faced (station_of list) sheet forward m
   choosing_end h = record {
     few = omega (arith, I.lines);
@@ -189,14 +194,14 @@ module _ {list sheet : List ℕ} {flags : List Bool} {m : ℕ} {forward : List B
 
   module _ (h : i < m) where
     pub choosing_inside : at < length sheet
-    choosing_inside = omega (arith, cable_inside I.here (omega (arith, I.lines)))
+    choosing_inside = omega (arith, cable_inside choosing_here (omega (arith, I.lines)))
 
     pub choosing_room : i < length forward
     choosing_room = omega (arith, I.lines, I.room, lines_most list I.passed)
 
     module _ {k : ℕ} (e : k ≡ second_of (get_or sheet at 0)) where
       pub choosing_corners : CornersAt list sheet i (at + 1) (at + 1 + k)
-      choosing_corners = cable_corners I.here e I.passed (omega (arith, I.lines))
+      choosing_corners = cable_corners choosing_here e I.passed (omega (arith, I.lines))
 
       module _
           {b a : Bool} (f : b ≡ facing (station_of list) (shown (station_of list) sheet) i)
@@ -217,11 +222,12 @@ module _ {list sheet : List ℕ} {flags : List Bool} {m : ℕ} {forward : List B
           pub choosing_next : not a ≡ false → Choosing list sheet flags m (set forward i b) (at + 1 + k) (i + 1)
           choosing_next n = record {
             passed = I.passed;
-            here = cable_next I.here e;
+            layout = I.layout;
             lines = I.lines;
             long = simp length-set I.long;
             room = simp length-set I.room;
             few = omega arith;
+            place = (cable_next choosing_here e).place;
             chosen =
                 below_more _ i (λ j l. get_or-set_other forward i j b false (λ q. omega arith) ∙ I.chosen j l)
                 (get_or-set_same forward i b false choosing_room ∙ f);

@@ -140,26 +140,30 @@ none_swept y line c alone pairs e = (rw e refl, rw e refl)
 -- Lines are read one after the other: the word of line i stands at this place.
 pub record AtLine (list sheet : List ℕ) (forward : List Bool) (lines at i : ℕ) : Type 0 where
   pub able : Sweepable list sheet forward lines
-  pub cable : AtCable list sheet at i
+  pub line : i ≤ lines
+  pub place : at ≡ cable_place (station_of list).parts sheet i
 
 pub at_first :
-    {list sheet : List ℕ} {forward : List Bool} {lines n : ℕ} → Sweepable list sheet forward lines → n ≡ (station_of list).parts
-    → AtLine list sheet forward lines (1 + n) 0
-at_first A e = record { able = A; cable = cable_first A.layout e }
+    {list sheet : List ℕ} {forward : List Bool} {lines at : ℕ} → Sweepable list sheet forward lines → at ≡ 1 + (station_of list).parts
+    → AtLine list sheet forward lines at 0
+at_first A e = record { able = A; line = omega arith; place = e ∙ (cable_first A.layout refl).place }
 
 module _ {list sheet : List ℕ} {forward : List Bool} {lines at i : ℕ} (L : AtLine list sheet forward lines at i) (h : i < lines) where
+  at_cable : AtCable list sheet at i
+  at_cable = record { layout = L.able.layout; place = L.place }
+
   pub at_corners : {k : ℕ} → k ≡ second_of (get_or sheet at 0) → CornersAt list sheet i (at + 1) (at + 1 + k)
-  at_corners e = cable_corners L.cable e L.able.passed (omega (arith, L.able.few))
+  at_corners e = cable_corners at_cable e L.able.passed (omega (arith, L.able.few))
 
   pub at_words : (2 + i < length list) × (i < 1024)
   at_words = line_words (at_corners refl)
 
   pub at_inside : at + 1 + second_of (get_or sheet at 0) ≤ length sheet
-  at_inside = cable_inside L.cable (omega (arith, L.able.few))
+  at_inside = cable_inside at_cable (omega (arith, L.able.few))
 
   module _ {k : ℕ} (e : k ≡ second_of (get_or sheet at 0)) where
     pub at_next : AtLine list sheet forward lines (at + 1 + k) (i + 1)
-    at_next = record { able = L.able; cable = cable_next L.cable e }
+    at_next = record { able = L.able; line = omega arith; place = (cable_next at_cable e).place }
 
     pub at_in : (r : Strand) → strand_in r ≡ strand_for list i (get_or forward i false) → InSheet sheet r (at + 1) (at + 1 + k)
     at_in r f = strand_in_lem (at_corners e) (get_or forward i false) r f
@@ -188,9 +192,9 @@ pub record Sweeping (list sheet : List ℕ) (forward : List Bool) (lines y : ℕ
       ≡ lines_pair (drawn_in list sheet forward lines) y pairs₀ 0 (drawn_in list sheet forward lines).routes
 
 pub sweeping_start :
-    {list sheet : List ℕ} {forward : List Bool} {lines y : ℕ} {alone pairs : List ℕ} {n : ℕ} → Sweepable list sheet forward lines
-    → length alone ≡ alone_places → length pairs ≡ pair_places → n ≡ (station_of list).parts
-    → Sweeping list sheet forward lines y alone pairs alone pairs (1 + n) 0
+    {list sheet : List ℕ} {forward : List Bool} {lines y : ℕ} {alone pairs : List ℕ} {at : ℕ} → Sweepable list sheet forward lines
+    → length alone ≡ alone_places → length pairs ≡ pair_places → at ≡ 1 + (station_of list).parts
+    → Sweeping list sheet forward lines y alone pairs alone pairs at 0
 sweeping_start A l k e = record {
   here = at_first A e;
   alone_places_lem = l;

@@ -110,8 +110,8 @@ pub record Filling (list sheet : List ℕ) (forward : List Bool) (lines : ℕ) (
       → NoneOutside (get_or spans j 0) (λ y. route_visits (drawn_in list sheet forward lines) y (route_at (drawn_in list sheet forward lines) j))
 
 pub filling_start :
-    {list sheet : List ℕ} {forward : List Bool} {lines : ℕ} {spans : List ℕ} {n : ℕ} → Sweepable list sheet forward lines
-    → lines ≤ length spans → n ≡ (station_of list).parts → Filling list sheet forward lines spans spans (1 + n) 0
+    {list sheet : List ℕ} {forward : List Bool} {lines : ℕ} {spans : List ℕ} {at : ℕ} → Sweepable list sheet forward lines
+    → lines ≤ length spans → at ≡ 1 + (station_of list).parts → Filling list sheet forward lines spans spans at 0
 filling_start A h e = record { here = at_first A e; long = refl; room = h; found = λ j l. absurd (omega arith) }
 
 module _

@@ -12,7 +12,7 @@ pub overflow_add-at : goal.overflow_add-at
 overflow_add-at c = omega (arith, c.part_count-at.ensures, (list_wired _ c.requires.sweepable.passed).most)
 
 pub loop-i-init : goal.loop-i-init
-loop-i-init c = filling_start c.requires.sweepable c.requires.lines_in_bounds c.part_count-at.ensures
+loop-i-init c = filling_start c.requires.sweepable c.requires.lines_in_bounds (omega (arith, c.part_count-at.ensures))
 
 pub overflow_add-start : goal.overflow_add-start
 overflow_add-start c = omega (arith, at_inside c.loop-i.invariant.here c.loop-i-test.true)
