@@ -21,6 +21,7 @@ that it leaves; a list and a length of output for its canonical form as one of `
 of output as one of `levels_outcome`, with the bit patterns of the floats; a list and a sheet as one of `sheet_verdict`.
 A call for marks is stated as an equation of `locate_outcome` and, for its last mark that is answered, of `hit_at`; a call
 for a cable as one of `selected` or of `bounded`.
+The definitions name a refusal by its fault, and reference.py by the check's number: `Fault` in checks/src/lib.rt has both.
 It is no part of the gate."""
 import os
 import random
@@ -49,6 +50,21 @@ def options(discount, spacing):
     return given if spacing is None else '(spaced_by %d %d %d %s)' % (*spacing, given)
 
 
+def fault_names():
+    """The name that the definitions have for each check, by its number."""
+    with open(os.path.join(ROOT, 'crates/checks/src/lib.rt'), encoding='utf-8') as f:
+        variants = re.search(r'^pub enum Fault \{\n(.*?)^\}$', f.read(), re.M | re.S).group(1)
+    return {int(number): name for name, number in re.findall(r'^    (\w+) = (\d+),$', variants, re.M)}
+
+
+FAULT_NAMES = fault_names()
+
+
+def refusal(what, check, place):
+    """A refusal by this check, given its number, as `sent_back` or `refused` of antt."""
+    return '%s faults.%s %d' % (what, FAULT_NAMES[check], place)
+
+
 def answer(words, room, discount, spacing):
     return reference.answer(words, room, discount, spacing or reference.GRID)
 
@@ -73,7 +89,7 @@ def due(words, room, *given):
     got = answer(words, room, *given)
     if got[0] == 'sheet':
         return 'written %s %d' % (numbers(got[1]), got[2]), 0
-    return 'sent_back %d %d' % got[1:], got[1]
+    return refusal('sent_back', *got[1:]), got[1]
 
 
 def rooms(rng, words, *given):
@@ -96,21 +112,6 @@ def imported(rows, module, names):
     return out
 
 
-def item(code, what):
-    """The struct or enum of this name."""
-    return re.search(r'^pub (?:struct|enum) %s \{.*?^\}$' % what, code, re.M | re.S).group()
-
-
-def struct_given(code):
-    """The struct of what a caller gives, with the `use` lines of the types in it."""
-    struct = item(code, 'Options')
-    types = set(re.findall(r'\b[A-Z]\w*', struct)) - {'Options'}
-    used = []
-    for path, names in re.findall(r'^(?:pub )?use (\S+?)::(\w+|\{[^}]*\});$', code, re.M):
-        used += ['use %s::%s;' % (path, name) for name in re.findall(r'[\w:]*\w', names) if name.split('::')[-1] in types]
-    return '\n'.join(used + [struct]) + '\n'
-
-
 def needed(crate):
     """The crates that a crate cites, and those that these cite."""
     with open(os.path.join(ROOT, 'crates.txt'), encoding='utf-8') as f:
@@ -124,9 +125,9 @@ def needed(crate):
     return out
 
 
-def checked(crate, text, code, gone):
+def checked(crate, text):
     """The cases of a text that the checker refuses, and what it says, in a copy of a crate over those that it needs. Of its proofs only what opens the definitions
-    is in the copy, of its code what `code` gives of src/lib.rt, and of its definitions not the modules that are gone."""
+    is in the copy; its code, which declares the types that they speak of, is there as it stands."""
     below = needed(crate)
     with tempfile.TemporaryDirectory() as top:
         for name in [crate] + below:
@@ -141,13 +142,9 @@ def checked(crate, text, code, gone):
             with open(os.path.join(folder, path), encoding='utf-8') as f:
                 return f.read()
 
-        files = {'proofs/Lib.antt': 'mod Computing\nmod Compare\n', 'proofs/Computing.antt': read('proofs/Computing.antt'), 'proofs/Compare.antt': '\n'.join(text) + '\n',
-                 'src/lib.rt': code(read('src/lib.rt')), 'specs/Lib.antt': '\n'.join(r for r in read('specs/Lib.antt').split('\n') if r.replace('pub mod ', '') not in gone)}
-        for part in ('proofs', 'src'):
-            shutil.rmtree(os.path.join(folder, part))
-            os.makedirs(os.path.join(folder, part))
-        for name in gone:
-            os.remove(os.path.join(folder, 'specs', name + '.antt'))
+        files = {'proofs/Lib.antt': 'mod Computing\nmod Compare\n', 'proofs/Computing.antt': read('proofs/Computing.antt'), 'proofs/Compare.antt': '\n'.join(text) + '\n'}
+        shutil.rmtree(os.path.join(folder, 'proofs'))
+        os.makedirs(os.path.join(folder, 'proofs'))
         for path, content in files.items():
             with open(os.path.join(folder, path), 'w', encoding='utf-8') as f:
                 f.write(content)
@@ -195,8 +192,7 @@ def main(a):
         right, check = due(words, room, *given[k])
         tally[check] = tally.get(check, 0) + 1
         text += ['', 'case_%d : outcome %s %s %d ≡ %s' % (k, options(*given[k]), numbers(words), room, right), 'unfolding ' + opened, 'case_%d = refl' % k]
-    # what only the code's contracts cite goes with the code
-    wrong, output = checked('hookup', text, struct_given, ['Answer'])
+    wrong, output = checked('hookup', text)
     cut = [words for words in cases if reference.fault(words) is None and lists.has_cut_part(words)]
     print('%d lists, %d with repeated cables, %d drawn with a cut part, %d with a discount, %d with a spacing (%s)' % (
         len(cases), sum(map(lists.has_repeats, cases)), len(cut), *(sum(k is not None for k in some) for some in (discounts, spacings)),
@@ -212,9 +208,9 @@ def operation_due(row, asked):
     answer, after = reference.edit(row, asked)
     number = answer[1] if answer[0] == 'refused' else 0
     if what == lists.PROPOSE:
-        right = 'answer.Refused %d %d' % answer[1:] if number else 'answer.Valid (proposal %d %d %d)' % answer[1:]
+        right = refusal('refused', *answer[1:]) if number else 'Ok (proposal %d %d %d)' % answer[1:]
         return 'proposed %d %d %s ≡ %s' % (one, other, numbers(row), right), number
-    verdict = 'Refused %d %d' % answer[1:] if number else 'Passed'
+    verdict = refusal('refused', *answer[1:]) if number else 'passed'
     return 'effect (Commit (proposal %d %d %d)) %s ≡ record { verdict = %s; row = %s }' % (one, other, count, numbers(row), verdict, numbers(after)), number
 
 
@@ -235,7 +231,7 @@ def editor(a):
         equation, number = operation_due(row, asked)
         tally[number] = tally.get(number, 0) + 1
         text += ['', 'case_%d : %s' % (k, equation), 'unfolding ' + opened, 'case_%d = refl' % k]
-    wrong, output = checked('editor', text, lambda code: item(code, 'Proposal') + '\n\n' + item(code, 'Proposed') + '\n', [])
+    wrong, output = checked('editor', text)
     print('%d operations (%s)' % (len(cases), ', '.join('%d %s' % (v, 'not refused' if c == 0 else 'refused by %d' % c) for c, v in sorted(tally.items()))))
     return told(wrong, output, lambda k: '%s on %s' % (cases[k][1], ' '.join('%08x' % w for w in cases[k][0])))
 
@@ -254,7 +250,7 @@ def canonical_due(words, room):
     """The equation of one list, and its number."""
     answer = reference.canonicalize(words, room)
     number = answer[1] if answer[0] == 'refused' else 0
-    right = 'sent_back %d %d' % answer[1:] if number else 'written %s %d' % (numbers(answer[1]), len(answer[1]))
+    right = refusal('sent_back', *answer[1:]) if number else 'written %s %d' % (numbers(answer[1]), len(answer[1]))
     return 'canonical_outcome %s %d ≡ %s' % (numbers(words), room, right), number
 
 
@@ -277,7 +273,7 @@ def canonical(a):
         equation, number = canonical_due(words, room)
         tally[number] = tally.get(number, 0) + 1
         text += ['', 'case_%d : %s' % (k, equation), 'unfolding ' + ' '.join(opened), 'case_%d = refl' % k]
-    wrong, output = checked('canonical', text, lambda code: item(code, 'Canonicalized') + '\n', [])
+    wrong, output = checked('canonical', text)
     print('%d lists, %d of them named, %d with repeated cables (%s)' % (
         len(cases), named, sum(map(lists.has_repeats, cases)),
         ', '.join('%d %s' % (v, 'written' if c == 0 else 'refused by %d' % c) for c, v in sorted(tally.items()))))
@@ -290,7 +286,7 @@ def levels_due(words, sorts, room):
     """The equation of one call, and its number."""
     answer = reference.levels(words, sorts, room)
     number = answer[1] if answer[0] == 'refused' else 0
-    right = 'sent_back %d %d' % answer[1:] if number else 'written %s %d' % (numbers(answer[1]), len(answer[1]))
+    right = refusal('sent_back', *answer[1:]) if number else 'written %s %d' % (numbers(answer[1]), len(answer[1]))
     return 'in_bits (levels_outcome %s %s %d) ≡ %s' % (numbers(words), numbers(sorts), room, right), number
 
 
@@ -318,7 +314,7 @@ def levels(a):
         equation, number = levels_due(words, sorts, room)
         tally[number] = tally.get(number, 0) + 1
         text += ['', 'case_%d : %s' % (k, equation), 'unfolding ' + ' '.join(opened), 'case_%d = refl' % k]
-    wrong, output = checked('levels', text, lambda code: '\n\n'.join(item(code, what) for what in ('Levels', 'Sort', 'Levelled')) + '\n', [])
+    wrong, output = checked('levels', text)
     print('%d calls, %d of them named, %d with repeated cables (%s)' % (
         len(cases), named, sum(lists.has_repeats(words) for words, _ in cases),
         ', '.join('%d %s' % (v, 'written' if c == 0 else 'refused by %d' % c) for c, v in sorted(tally.items()))))
@@ -361,10 +357,10 @@ def verdicts(a):
     for k, (kind, words, sheet) in enumerate(cases):
         answer = reference.check_sheet(words, sheet)
         answers.append((kind, answer))
-        right = 'Refused %d %d' % answer if answer else 'Passed'
+        right = refusal('refused', *answer) if answer else 'passed'
         text += ['', 'case_%d : sheet_verdict %s %s ≡ %s' % (k, numbers(words), numbers(sheet), right),
                  'unfolding ' + ' '.join(opened), 'case_%d = refl' % k]
-    wrong, output = checked('validation', text, lambda code: code, [])
+    wrong, output = checked('validation', text)
     print('\n'.join(sheets.table(answers)))
     return told(wrong, output, lambda k: '%s: list %s, sheet %s' % (
         cases[k][0], *(' '.join('%08x' % w for w in row) for row in cases[k][1:])))
@@ -402,18 +398,17 @@ def named_hit(word):
 def screen_due(k, words, sheet, some, room, line):
     """The equations of one call, and its answers. Of the words of a cable and of its box it has one."""
     given, answer = '%s %s' % (numbers(words), numbers(sheet)), reference.locate(words, sheet, some, room)
-    right = 'written %s tt' % numbers(answer[1]) if answer[0] == 'hits' else 'sent_back %d %d' % answer[1:]
+    right = 'written %s tt' % numbers(answer[1]) if answer[0] == 'hits' else refusal('sent_back', *answer[1:])
     out = ['locate_outcome %s %s %d ≡ %s' % (given, numbers(some), room, right)]
     if answer[0] == 'hits' and some:
         out.append('hit_at (station_of %s) %s (mark_spot 0x%x) ≡ %s' % (
             numbers(words), numbers(sheet), some[-1], named_hit(answer[1][-1])))
     own = reference.cable_bounds(words, sheet, line) if k % 2 else reference.select_cable(words, sheet, line)
-    what, variants = ('bounded', 'box') if k % 2 else ('selected', 'own')
     if own[0] == 'refused':
-        right = 'Refused %d %d' % own[1:]
+        right = refusal('refused', *own[1:])
     else:
-        right = ('Box (record { left = %d; bottom = %d; right = %d; top = %d })' if k % 2 else 'Words %d %d') % own[1:]
-    return out + ['%s %s %d ≡ %s.%s' % (what, given, line, variants, right)], (answer, own)
+        right = ('Ok (record { left = %d; bottom = %d; right = %d; top = %d })' if k % 2 else 'words_at %d %d') % own[1:]
+    return out + ['%s %s %d ≡ %s' % ('bounded' if k % 2 else 'selected', given, line, right)], (answer, own)
 
 
 def screen(a):
@@ -437,7 +432,7 @@ def screen(a):
             text += ['', 'case_%d : %s' % (len(of_case), equation), 'unfolding ' + ' '.join(opened),
                      'case_%d = refl' % len(of_case)]
             of_case.append((equation, case))
-    wrong, output = checked('location', text, lambda code: code, [])
+    wrong, output = checked('location', text)
     print('%d calls, %d equations; marks: %s; cables: %s; at the marks %s' % (
         len(cases), len(of_case), *map(marks.tally_of, (located, chosen, hits))))
     return told(wrong, output, lambda k: of_case[k][0])

@@ -1,5 +1,6 @@
 -- 'All sheets we write are accepted, in every spacing', with and without a bill: what demand 3 holds of, and so what every successful call
 -- of draw leaves in the output. Assumes nothing.
+use Rattle.std.specs.Prelude.{Ok, Err}
 use Prim.Native.Nat.{ℕ, suc, ◌+◌, ◌<◌}
 use native.Mathlib.Omega.{arith}
 use mathlib.Core.Path.{◌≡◌, refl, sym, ap, subst, subst₂, ◌∙◌}
@@ -9,9 +10,7 @@ use mathlib.Core.List.{List, [], ◌∷◌, ◌++◌, map, append_assoc}
 use lib.ListN.{length, get_or, take, length-append, length-map, get_or-append}
 use Rattle.lists.proofs.Select.{get_d_map}
 use Rattle.words.specs.Words.{line_of}
-use Rattle.checks.specs.declared.Verdict.{Verdict}
-use Rattle.checks.specs.declared.Verdict.TheVariants as verdict
-use Rattle.checks.specs.Checks.{first_refusal, Clear}
+use Rattle.checks.specs.Checks.{first_refusal, Clear, Verdict, number_of}
 use Rattle.station.specs.Station.{Cable, no_cable, Station, station_of}
 use Rattle.geometry.specs.Spots.{Spot, origin}
 use Rattle.geometry.specs.Lines.{point}
@@ -28,12 +27,10 @@ use Rattle.drawing.specs.Sizes.{Sizes}
 use Rattle.drawing.proofs.ReadBack.{DrawingFits}
 use Rattle.drawing.proofs.Spaced.{parts_spaced, routes_spaced}
 use Rattle.hookup.specs.declared.Options.{Options}
-use Rattle.hookup.specs.declared.Answer.{Answer}
-use Rattle.hookup.specs.declared.Answer.TheVariants.{Sheet}
 use Rattle.hookup.specs.Checks.{call_checks}
 use Rattle.hookup.specs.Reading.{ends_by, read_by, drawing_of}
 use Rattle.hookup.specs.Demand.{Demand3}
-use Rattle.hookup.specs.Answer.{counts, refusal, reply, Drew}
+use Rattle.hookup.specs.Answer.{Answer, counts, refusal, reply, Drew}
 use Rattle.hookup.proofs.Drawn.{ends_of}
 use Rattle.hookup.proofs.CallChecks.{checked_given, list_clear}
 use Rattle.hookup.proofs.Answers.{refused_outcome}
@@ -148,8 +145,8 @@ module _ (options : Options) (list sheet : List ℕ) (D : Demand3 options list s
 -- Every successful call of draw
 
 module _ (options : Options) (list before after : List ℕ) (answer : Answer) (words crossings : ℕ)
-    (D : Drew options list before after answer) (e : answer ≡ Sheet words crossings) where
-  drew : Drew options list before after (Sheet words crossings)
+    (D : Drew options list before after answer) (e : answer ≡ Ok (record { words = words; crossings = crossings })) where
+  drew : Drew options list before after (Ok (record { words = words; crossings = crossings }))
   drew = subst (λ (a : Answer). Drew options list before after a) e D
 
   -- its list was not sent back
@@ -157,9 +154,9 @@ module _ (options : Options) (list before after : List ℕ) (answer : Answer) (w
   drawn_clear = list_clear options list (checked_given options list (go (first_refusal (call_checks options) list) refl))
     where
       go : (v : Verdict) → first_refusal (call_checks options) list ≡ v → Clear (call_checks options) list
-      go verdict.Passed f = f
-      go (verdict.Refused c p) f =
-          let g : counts words crossings ≡ refusal c p = drew.replies ∙ ap reply (refused_outcome options list (length before) c p f) in
+      go (Ok u) f = f
+      go (Err r) f =
+          let g : counts words crossings ≡ refusal (number_of r.fault) r.place = drew.replies ∙ ap reply (refused_outcome options list (length before) r.fault r.place f) in
           let z : ◌≡◌ {A = ℕ} 0 1 = cc in
           absurd (omega arith)
 

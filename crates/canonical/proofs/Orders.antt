@@ -1,12 +1,11 @@
 -- Lists of one station: checks 9 and 10 say the same of each, and the smallest st-ordering between its ends is the same. What is shown rests
 -- on which parts are joined, and on nothing else of the cables. Assumes nothing.
+use Rattle.std.specs.Prelude.{Option, Some, None}
 use Prim.Native.Nat.{ℕ, ◌<◌}
 use native.Mathlib.Omega.{arith}
 use mathlib.Core.Path.{◌≡◌, refl, sym, ap, ◌∙◌, subst}
 use mathlib.Core.Logic.{inl, inr}
 use mathlib.Core.List.{List}
-use Rattle.lists.specs.declared.Found.{Found}
-use Rattle.lists.specs.declared.Found.TheVariants.{At, Nothing}
 use Rattle.lists.proofs.Select.{get_d_mem}
 use Rattle.lists.proofs.Places.{mem-place}
 use Rattle.lists.proofs.Multiset.{counted_e, counted_i}
@@ -68,11 +67,11 @@ module _ (st : Station) (ds : List Cable) (J : JoinsOf st.cables ds) (K : JoinsO
   check9_same : check9 st ≡ check9 (cabled st ds)
   check9_same = go (check9 st) refl
     where
-      go : (f : Found) → check9 st ≡ f → check9 st ≡ check9 (cabled st ds)
-      go (At p) e =
+      go : (f : Option ℕ) → check9 st ≡ f → check9 st ≡ check9 (cabled st ds)
+      go (Some p) e =
           let L = (check9_at st p).0 e in
           e ∙ sym ((check9_at (cabled st ds) p).1 (record { part = L.part; bad = λ q. L.bad (path_same K q); lowest = λ j h b. L.lowest j h (λ q. b (path_same J q)) }))
-      go Nothing e = e ∙ sym ((check9_nothing (cabled st ds)).1 (λ p h. path_same J ((check9_nothing st).0 e p h)))
+      go None e = e ∙ sym ((check9_nothing (cabled st ds)).1 (λ p h. path_same J ((check9_nothing st).0 e p h)))
 
   separates_same : {v : ℕ} → SeparatesSome st v → SeparatesSome (cabled st ds) v
   separates_same s = (s.0, s.1, λ r. s.2 (reaches_back r))
@@ -83,11 +82,11 @@ module _ (st : Station) (ds : List Cable) (J : JoinsOf st.cables ds) (K : JoinsO
   check10_same : check10 st ≡ check10 (cabled st ds)
   check10_same = go (check10 st) refl
     where
-      go : (f : Found) → check10 st ≡ f → check10 st ≡ check10 (cabled st ds)
-      go (At p) e =
+      go : (f : Option ℕ) → check10 st ≡ f → check10 st ≡ check10 (cabled st ds)
+      go (Some p) e =
           let L = (check10_at st p).0 e in
           e ∙ sym ((check10_at (cabled st ds) p).1 (record { part = L.part; bad = separates_same L.bad; lowest = λ j h b. L.lowest j h (separates_back b) }))
-      go Nothing e = e ∙ sym ((check10_nothing (cabled st ds)).1 (λ v p h g n. reaches_same ((check10_nothing st).0 e v p h g n)))
+      go None e = e ∙ sym ((check10_nothing (cabled st ds)).1 (λ v p h g n. reaches_same ((check10_nothing st).0 e v p h g n)))
 
 ordering_same : (st : Station) (ds : List Cable) → JoinsOf st.cables ds → {l : List ℕ} → StOrdering st l → StOrdering (cabled st ds) l
 ordering_same st ds J O = record {

@@ -1,4 +1,5 @@
 -- The canonical form of a list passes checks 1 to 8, where the list does. Assumes nothing.
+use Rattle.std.specs.Prelude.{None}
 use Prim.Native.Nat.{ℕ, zero, suc, ◌+◌, ◌-◌, ◌≤◌, ◌<◌, min, max}
 use native.Mathlib.Omega.{arith}
 use native.Mathlib.Decide.{dec_lt}
@@ -9,7 +10,6 @@ use lib.ListN.{length, get_or, drop, length-drop}
 use lib.Seq.{get_or-drop}
 use lib.Dec.{eqb, ltb}
 use borrow.Author.Tests.{eq-eqb, ne_eqb, le-ltb, lt-leb}
-use Rattle.lists.specs.declared.Found.TheVariants.{Nothing}
 use Rattle.lists.proofs.Bools.{or_either}
 use Rattle.lists.proofs.Select.{get_d_mem}
 use Rattle.lists.proofs.Places.{mem-place}
@@ -49,7 +49,7 @@ module _ (list : List ℕ) (C : Clear (up_to 6) list) where
   same_length : length (canonical list) ≡ length list
   same_length = length_canonical list two
 
-  canonical_1 : check1 (canonical list) ≡ Nothing
+  canonical_1 : check1 (canonical list) ≡ None
   unfolding check1 at_when
   canonical_1 = rw (le-ltb (length (canonical list)) 2 (omega (arith, same_length, two)))
 
@@ -79,16 +79,16 @@ module _ (list : List ℕ) (C : Clear (up_to 6) list) where
       let k : kind_of (turned w) ≡ cable = (turned_fields w).kind_is in
       well_placed i (turned w) (k ∙ sym (kind_cable i h)) (λ z. omega arith) (turned_fields w).no_spare
 
-  canonical_2 : check2 (canonical list) ≡ Nothing
+  canonical_2 : check2 (canonical list) ≡ None
   unfolding check2
   canonical_2 =
       seek_none (λ i. misplaced i (get_or (canonical list) i 0)) 0 (length (canonical list))
       (λ i a l. each_word list (λ j w. misplaced j w ≡ false) head_placed ends_placed (λ j k h g m. cable_placed j (get_or list k 0) h) i (omega arith))
 
-  canonical_3 : check3 (canonical list) ≡ Nothing
+  canonical_3 : check3 (canonical list) ≡ None
   canonical_3 = sym (length_right (canonical list) (same_length ∙ rw (canonical_head list) (words_due list 6 C (omega arith))))
 
-  canonical_4 : check4 (canonical list) ≡ Nothing
+  canonical_4 : check4 (canonical list) ≡ None
   canonical_4 =
       let p = parts_between list 6 C (omega arith) in
       sym (parts_right (canonical list) (rw (canonical_head list) p.0) (rw (canonical_head list) p.1))
@@ -107,7 +107,7 @@ module _ (list : List ℕ) (C : Clear (up_to 6) list) where
       go₂ : (x a b : ℕ) → a < n → b < n → x ≡ max a b → x < n
       go₂ x a b ha hb e = omega arith
 
-  canonical_5 : check5 (canonical list) ≡ Nothing
+  canonical_5 : check5 (canonical list) ≡ None
   unfolding check5
   canonical_5 =
       let n = parts_of (get_or list 0 0) in
@@ -124,7 +124,7 @@ module _ (list : List ℕ) (C : Clear (up_to 6) list) where
       go : (a b : ℕ) → min a b ≡ max a b → a ≡ b
       go a b e = omega arith
 
-  canonical_6 : check6 (canonical list) ≡ Nothing
+  canonical_6 : check6 (canonical list) ≡ None
   unfolding check6
   canonical_6 =
       let f : (j : ℕ) → 1 ≤ j → j < length list → first_of (get_or list j 0) ≡ second_of (get_or list j 0) → ⊥ = different list 6 C (omega arith) in
@@ -159,7 +159,7 @@ unfolding station_of canonical
 same_parts_lem list = refl
 
 -- four cables at most at each part
-canonical_8 : (list : List ℕ) → Clear (up_to 8) list → check8 (canonical list) ≡ Nothing
+canonical_8 : (list : List ℕ) → Clear (up_to 8) list → check8 (canonical list) ≡ None
 unfolding check8
 canonical_8 list C =
     rw (same_parts_lem list)

@@ -3,6 +3,7 @@
 use Prim.Native.Nat.{ℕ}
 use mathlib.Core.Path.{◌≡◌, refl}
 use mathlib.Core.List.{List, [], ◌∷◌}
+use Rattle.checks.specs.declared.Fault.TheVariants as faults
 use Rattle.checks.specs.Outcome.{written, sent_back}
 use Rattle.canonical.specs.Outcome.{canonical_outcome}
 use Rattle.canonical.proofs.Computing.{canonical_computing}
@@ -18,7 +19,7 @@ record Table : Type 0 where
   -- in canonical form already
   again : canonical_outcome triangle 6 ≡ written triangle 5
   -- one word too few
-  short : canonical_outcome (0x10030003 ∷ 0x20000002 ∷ 0x30000001 ∷ 0x30001002 ∷ 0x30000002 ∷ []) 4 ≡ sent_back 11 5
+  short : canonical_outcome (0x10030003 ∷ 0x20000002 ∷ 0x30000001 ∷ 0x30001002 ∷ 0x30000002 ∷ []) 4 ≡ sent_back faults.OutputTooShort 5
   -- a doubled cable stays twice, whichever way round it is named
   doubled :
       canonical_outcome (0x10030003 ∷ 0x20000002 ∷ 0x30001002 ∷ 0x30000001 ∷ 0x30002001 ∷ []) 5
@@ -63,14 +64,14 @@ record Table : Type 0 where
       ) 12
   -- a part with five cables, and no room: 8 comes first
   eight_before_eleven :
-      canonical_outcome (0x10060005 ∷ 0x20000005 ∷ 0x30000001 ∷ 0x30000002 ∷ 0x30000003 ∷ 0x30000004 ∷ 0x30000005 ∷ []) 0 ≡ sent_back 8 0
+      canonical_outcome (0x10060005 ∷ 0x20000005 ∷ 0x30000001 ∷ 0x30000002 ∷ 0x30000003 ∷ 0x30000004 ∷ 0x30000005 ∷ []) 0 ≡ sent_back faults.CrowdedPart 0
   -- document 01's examples of checks 1 to 6
-  first : canonical_outcome [] 0 ≡ sent_back 1 0
-  second : canonical_outcome (0x20030000 ∷ 0x20000002 ∷ []) 2 ≡ sent_back 2 0
-  third : canonical_outcome (0x10030001 ∷ 0x20000002 ∷ []) 2 ≡ sent_back 3 3
-  fourth : canonical_outcome (0x10020000 ∷ 0x20000001 ∷ []) 2 ≡ sent_back 4 2
-  fifth : canonical_outcome (0x10030000 ∷ 0x20000003 ∷ []) 2 ≡ sent_back 5 1
-  sixth : canonical_outcome (0x10030000 ∷ 0x20001001 ∷ []) 2 ≡ sent_back 6 1
+  first : canonical_outcome [] 0 ≡ sent_back faults.TooFewWords 0
+  second : canonical_outcome (0x20030000 ∷ 0x20000002 ∷ []) 2 ≡ sent_back faults.MisplacedWord 0
+  third : canonical_outcome (0x10030001 ∷ 0x20000002 ∷ []) 2 ≡ sent_back faults.WrongLength 3
+  fourth : canonical_outcome (0x10020000 ∷ 0x20000001 ∷ []) 2 ≡ sent_back faults.WrongPartCount 2
+  fifth : canonical_outcome (0x10030000 ∷ 0x20000003 ∷ []) 2 ≡ sent_back faults.PartOutside 1
+  sixth : canonical_outcome (0x10030000 ∷ 0x20001001 ∷ []) 2 ≡ sent_back faults.SelfLoop 1
 
 table : Table
 unfolding canonical_computing triangle

@@ -2,4 +2,5 @@
 pub mod BucketLaws
 pub mod Filling
 pub mod Inserting
+pub mod Passed
 pub mod Rows

@@ -1,16 +1,16 @@
-// Standard input and output of the programs that the gate runs on stored calls: words most significant byte first, and words, numbers and
-// refusals in the sheet program's form.
+// Standard input and output of the programs that the gate runs on stored calls: words most significant byte first, and rows of them, each
+// behind its count.
 #![tactic(auto)]
 
-ghost use Rattle.std.specs.Prelude.{◌/◌, ◌≡◌, ◌≤◌, length, IfErr, IfOk};
+ghost use Rattle.std.specs.Prelude.{◌≡◌, ◌/◌, ◌≤◌, ◌<◌, ◌∷◌, ◌++◌, ◌↔◌, length, slice_index, vec_len, IfErr, IfOk, IfSome, IsSome, MatchResult};
 ghost use Rattle.console.specs.Input.{most_read};
 
+use std::fmt::Display;
 use std::io;
 use std::io::Read;
 use text::bytes::read_words;
-use text::lines::{put_hex_lines, put_number, put_refused};
 
-// The most words that are read.
+/// The most words that are read.
 pub const MOST_READ: usize = 131072;
 
 // The words of a part of the input.
@@ -19,13 +19,11 @@ const PART: usize = 1024;
 // The parts of the longest input.
 const PARTS: usize = MOST_READ / PART;
 
-// The most words that are said at once.
-pub const MOST_SAID: usize = 8192;
-
-// What a row holds before a call, so that it can be said what the call wrote.
+/// What a row holds before a call, so that it can be said what the call wrote.
 pub const MARK: u32 = 0xa5a5_a5a5;
 
-// Reads until the row is full or the input ends; how many bytes stand at the row's front.
+/// Reads until the row is full or the input ends; how many bytes stand at the row's front. A read gives as many bytes as it likes, so that
+/// no range says how often it is called.
 pub fn read_full(input: &mut impl Read, row: &mut [u8]) -> io::Result<usize>
     ensures ok { IfOk result (λ n. n ≤ length row.new) }
     ensures err { IfErr result (λ _. length row.new ≡ length row.old) }
@@ -34,7 +32,7 @@ pub fn read_full(input: &mut impl Read, row: &mut [u8]) -> io::Result<usize>
     while done < row.len() {
         let n = input.read(&mut row[done..])?;
         if n == 0 {
-            return Ok(done);
+            break;
         }
         done += n;
     }
@@ -68,7 +66,7 @@ fn read_parts(input: &mut impl Read, words: &mut [u32]) -> io::Result<usize>
     Ok(MOST_READ)
 }
 
-// The words of standard input, stored from the front; how many there are.
+/// The words of standard input, stored from the front; how many there are.
 pub fn read_input(rt: &impl Input, words: &mut [u32]) -> io::Result<usize>
     requires { most_read ≤ length words.old }
     ensures ok { IfOk result (λ n. n ≤ length words.new) }
@@ -78,81 +76,113 @@ pub fn read_input(rt: &impl Input, words: &mut [u32]) -> io::Result<usize>
     read_parts(&mut input, words)
 }
 
-pub fn say(rt: &impl Print, text: &[u8]) -> io::Result<()> {
-    rt.write_all(text)
+/// The words of standard input, in a row of their own.
+pub fn input_words(rt: &(impl Input + AllocGlobal)) -> io::Result<Vec<u32>>
+    ensures { IfOk result (λ words. vec_len words ≤ most_read) }
+{
+    let mut words = vec![in rt.alloc(); 0u32; MOST_READ]?;
+    let count = read_input(rt, &mut words)?;
+    words.truncate(count);
+    Ok(words)
 }
 
-// The first n bytes of a buffer.
-fn say_first(rt: &impl Print, out: &[u8], n: usize) -> io::Result<()> {
-    if n <= out.len() {
-        say(rt, &out[..n])?;
-    }
-    Ok(())
+/// Takes the first `N` words off the front.
+pub fn take_words<'a, const N: usize>(words: &mut &'a [u32]) -> Option<&'a [u32; N]>
+    ensures some { IfSome result (λ head. words.old.now ≡ head.now ++ words.new.now) }
+    ensures variant { IsSome result ↔ (N ≤ length words.old.now) }
+{
+    let (head, rest) = words.split_first_chunk()?;
+    *words = rest;
+    Some(head)
 }
 
-pub fn say_number(rt: &impl Print, x: usize) -> io::Result<()> {
-    let mut out = [0u8; 32];
-    let n = put_number(&mut out, 0, x);
-    say_first(rt, &out, n)
+/// Takes a row off the front, which stands there behind its count. Without a whole row the words may lose the count.
+pub fn take_row<'a>(words: &mut &'a [u32]) -> Option<&'a [u32]>
+    ensures some { IfSome result (λ row. words.old.now ≡ length row.now ∷ row.now ++ words.new.now) }
+    ensures variant { IsSome result
+        ↔ ((0 < length words.old.now) × (slice_index words.old.now 0 < length words.old.now)) }
+{
+    let count = *words.split_off_first()?;
+    words.split_off(..count as usize)
 }
 
-// A word a line.
+/// A word a line.
 pub fn say_words(rt: &impl Print, words: &[u32]) -> io::Result<()> {
-    if words.len() <= MOST_SAID {
-        let mut out = [0u8; 9 * MOST_SAID];
-        let n = put_hex_lines(&mut out, 0, words);
-        say_first(rt, &out, n)?;
+    for word in words {
+        println!(rt; "{word:08x}")?;
     }
     Ok(())
 }
 
-pub fn say_refused(rt: &impl Print, check: u8, place: usize) -> io::Result<()> {
-    let mut out = [0u8; 64];
-    let n = put_refused(&mut out, 0, check as usize, place);
-    say_first(rt, &out, n)
-}
-
-// Every word of a row is the mark.
-fn is_marked(row: &[u32]) -> bool {
-    let mut i = 0;
-    while i < row.len() {
-        if row[i] != MARK {
-            return false;
-        }
-        i += 1;
-    }
-    true
-}
-
-// Whether a row is as it was before a call.
+/// Whether a row is as it was before a call.
 pub fn say_kept(rt: &impl Print, row: &[u32]) -> io::Result<()> {
-    if is_marked(row) {
-        say(rt, b"kept\n")
-    } else {
-        say(rt, b"changed\n")
-    }
+    let kept = row.iter().all(|&word| word == MARK);
+    println!(rt; "{}", if kept { "kept" } else { "changed" })
 }
 
-// Two rows hold the same words.
-fn is_same(a: &[u32], b: &[u32]) -> bool {
-    if a.len() != b.len() {
-        return false;
-    }
-    let mut i = 0;
-    while i < a.len() {
-        if a[i] != b[i] {
-            return false;
-        }
-        i += 1;
-    }
-    true
-}
-
-// Whether two calls left the same.
+/// Whether two calls left the same.
 pub fn say_same(rt: &impl Print, a: &[u32], b: &[u32]) -> io::Result<()> {
-    if is_same(a, b) {
-        say(rt, b"same\n")
-    } else {
-        say(rt, b"other words\n")
+    println!(rt; "{}", if a == b { "same" } else { "other words" })
+}
+
+/// Prints a count behind its name, or why there is none; the count.
+pub fn say_count<E: Display + Drop>(
+    rt: &impl Print,
+    name: &str,
+    answer: Result<usize, E>,
+) -> io::Result<Option<usize>>
+    ensures { IfOk result (λ count. MatchResult answer (λ n. count ≡ Some n) (λ _. count ≡ None)) }
+{
+    match answer {
+        Ok(count) => {
+            println!(rt; "{name} {count}")?;
+            Ok(Some(count))
+        }
+        Err(refusal) => {
+            println!(rt; "{refusal}")?;
+            Ok(None)
+        }
     }
+}
+
+// What a call with room for so many words leaves of a marked row.
+fn row_after<F>(
+    rt: &(impl Print + AllocGlobal),
+    spare: usize,
+    room: usize,
+    call: F,
+) -> io::Result<Vec<u32>>
+where
+    F: Fn(&mut [u32]) -> io::Result<Option<usize>>,
+    requires room_in_bounds { room ≤ spare }
+    requires callable { F.IsAlwaysCallable call }
+    ensures { IfOk result (λ row. vec_len row ≡ spare) }
+{
+    let mut row = vec![in rt.alloc(); MARK; spare]?;
+    call(&mut row[..room])?;
+    Ok(row)
+}
+
+/// Makes a call with `spare` words of room, more than it can need. One that writes words is made once more with the exact room and once with
+/// one word less, a refused one with none. `call` prints its answer and returns how many words it wrote, if it was not refused.
+pub fn try_rooms<F>(rt: &(impl Print + AllocGlobal), spare: usize, call: F) -> io::Result<()>
+where
+    F: Fn(&mut [u32]) -> io::Result<Option<usize>> + Drop,
+    requires { F.IsAlwaysCallable call }
+{
+    let mut row = vec![in rt.alloc(); MARK; spare]?;
+    let Some(count) = call(&mut row)? else {
+        say_kept(rt, &row)?;
+        return say_kept(rt, &row_after(rt, spare, 0, &call)?);
+    };
+    let Some((written, behind)) = row.split_at_checked(count) else {
+        return Ok(());
+    };
+    say_words(rt, written)?;
+    say_kept(rt, behind)?;
+    say_same(rt, &row, &row_after(rt, spare, count, &call)?)?;
+    if 0 < count {
+        say_kept(rt, &row_after(rt, spare, count - 1, &call)?)?;
+    }
+    Ok(())
 }

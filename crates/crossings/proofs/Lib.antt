@@ -1,3 +1,2 @@
--- Laws of the test on numbers and of the count. Assumes nothing.
-pub mod CourseTests
+-- Laws of the count. Assumes nothing.
 pub mod CrossingCounts

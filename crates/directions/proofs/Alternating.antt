@@ -9,7 +9,7 @@ use mathlib.Core.List.{List, [], ◌∷◌, ◌++◌, map}
 use lib.ListN.{length, get_or, drop, length-append, drop_of_length-le}
 use lib.Seq.{drop-cons}
 use lib.Dec.{eqb}
-use borrow.Author.Tests.{eqb-true, eq-eqb, not-true, not-false}
+use borrow.Author.Tests.{eqb-true, eq-eqb, not-true}
 use Rattle.lists.proofs.Bools.{and_e, and_i, not_e, not_i, same_test}
 use Rattle.geometry.specs.Spots.{Spot}
 use Rattle.geometry.specs.Lines.{point, IsRun, Level, Upright}
@@ -179,8 +179,8 @@ module _ {first last : Spot} {ws : List ℕ} {level : Bool} where
           let l = W.left in
           rw (e, add-one) (rw (drop-cons ws k 0 h) at l)
 
-      pub walking_on : (r : Bool) → r ≡ run_of level p c → not r ≡ false → Walking first last ws (not level) c (k + 1)
-      walking_on r f g = let d : run_of level p c ≡ true = sym f ∙ not-false r g in record { left = rw d at run_due }
+      pub walking_on : (r : Bool) → r ≡ run_of level p c → r ≡ true → Walking first last ws (not level) c (k + 1)
+      walking_on r f g = let d : run_of level p c ≡ true = sym f ∙ g in record { left = rw d at run_due }
 
-      pub walking_stops : (r : Bool) → r ≡ run_of level p c → not r ≡ true → false ≡ alternates (line_over first (map word_spot ws) last)
-      walking_stops r f g = let d : run_of level p c ≡ false = sym f ∙ not-true r g in rw d at run_due
+      pub walking_stops : (r : Bool) → r ≡ run_of level p c → r ≡ false → false ≡ alternates (line_over first (map word_spot ws) last)
+      walking_stops r f g = let d : run_of level p c ≡ false = sym f ∙ g in rw d at run_due

@@ -1,14 +1,13 @@
 -- The direction of each cable, read off the sheet's words one cable after the other. Assumes nothing.
-use Prim.Native.Nat.{ℕ, suc, ◌+◌, ◌-◌, ◌<◌, ◌≤◌}
+use Prim.Native.Nat.{ℕ, suc, ◌+◌, ◌<◌, ◌≤◌}
 use native.Mathlib.Omega.{arith}
 use native.Mathlib.Numerals.{add-one}
 use mathlib.Core.Path.{◌≡◌, refl, sym, ap, ◌∙◌}
-use mathlib.Core.Bool.{Bool, true, false, not}
+use mathlib.Core.Bool.{Bool, true, false}
 use mathlib.Core.List.{List, map}
-use lib.ListN.{length, get_or, set, take, drop, length-set, length-map}
+use lib.ListN.{length, get_or, set, drop, length-set, length-map, length-take, length-drop}
 use lib.Seq.{get_or-set_same, get_or-set_other}
 use borrow.Author.Count.{below_more}
-use borrow.Author.Tests.{not-true, not-false}
 use Rattle.words.specs.Words.{second_of}
 use Rattle.words.specs.Limits.{most_cables}
 use Rattle.checks.specs.Checks.{Clear}
@@ -16,19 +15,19 @@ use Rattle.station.specs.Station.{Station, station_of}
 use Rattle.station.proofs.Cables.{line_word}
 use Rattle.order.specs.Checks.{all_checks}
 use Rattle.order.proofs.Passed.{list_wired, lines_most}
-use Rattle.geometry.specs.Spots.{Spot}
 use Rattle.drawing.specs.Drawing.{Route, Drawing, spot_of, route_at, route_points}
 use Rattle.drawing.specs.Reading.{word_spot}
 use Rattle.validation.specs.Alone.{alternates}
-use Rattle.validation.specs.Facing.{line_over, faces_forward}
+use Rattle.validation.specs.Facing.{faces_forward}
 use Rattle.validation.specs.Directions.{directed, shown}
 use Rattle.validation.specs.Layout.{cable_place, Follows}
 use Rattle.validation.specs.Rules.{ends_at, points_read}
 use Rattle.validation.proofs.Accepting.{ends_below}
 use Rattle.validation.proofs.Following.{place_first, place_next, place_rises, words_enough, route_read, part_read}
+use Rattle.directions.specs.declared.strands.Strand.{Strand}
 use Rattle.sweep.specs.Boards as tables
 use Rattle.sweep.specs.Judged.{facing, alternates_facing, Faced}
-use Rattle.directions.specs.Code.{strand_for, CornersAt}
+use Rattle.directions.specs.Code.{strand_in, strand_for, corner_words, CornersOf, InSheet, Trace, points_along, trace_off, trace_at}
 
 -- Cables are read one after the other: the word of cable i stands at this place.
 pub record AtCable (list sheet : List ℕ) (at i : ℕ) : Type 0 where
@@ -49,28 +48,26 @@ module _ {list sheet : List ℕ} {at i : ℕ} (L : AtCable list sheet at i) wher
       let r = place_rises n sheet (suc i) (length (station_of list).cables) h in
       rw L.place (omega (arith, L.layout.complete, place_next n sheet i))
 
-  module _ {k : ℕ} (e : k ≡ second_of (get_or sheet at 0)) where
-    counts : k ≡ second_of (get_or sheet (cable_place (station_of list).parts sheet i) 0)
-    counts = e ∙ ap (λ (a : ℕ). second_of (get_or sheet a 0)) L.place
+  module _ {corners : List ℕ} (e : corners ≡ corner_words sheet at) where
+    pub cable_corners : Clear all_checks list → i < length (station_of list).cables → CornersOf list sheet i corners
+    cable_corners pass h = record { passed = pass; layout = L.layout; is_line = h; words = e ∙ ap (corner_words sheet) L.place }
 
-    pub cable_corners : Clear all_checks list → i < length (station_of list).cables → CornersAt list sheet i (at + 1) (at + 1 + k)
-    cable_corners pass h = record {
-      passed = pass;
-      layout = L.layout;
-      is_line = h;
-      starts = ap (λ (a : ℕ). a + 1) L.place;
-      ends = ap (λ (a : ℕ). at + 1 + a) counts;
-    }
+    corners_counted : i < length (station_of list).cables → length corners ≡ second_of (get_or sheet at 0)
+    corners_counted h =
+        let inside = cable_inside h in
+        ap length e ∙ length-take _ (drop (at + 1) sheet) ∙ omega (arith, length-drop (at + 1) sheet)
 
-    pub cable_next : AtCable list sheet (at + 1 + k) (i + 1)
-    cable_next = record {
+    pub cable_next : i < length (station_of list).cables → AtCable list sheet (at + (1 + length corners)) (i + 1)
+    cable_next h = record {
       layout = L.layout;
-      place = rw (add-one i) (omega (arith, L.place, counts, place_next (station_of list).parts sheet i));
+      place =
+          let counts = corners_counted h ∙ ap (λ (a : ℕ). second_of (get_or sheet a 0)) L.place in
+          rw (add-one i) (omega (arith, L.place, counts, place_next (station_of list).parts sheet i));
     }
 
 -- One cable
 
-module _ {list sheet : List ℕ} {line from to : ℕ} (C : CornersAt list sheet line from to) where
+module _ {list sheet : List ℕ} {line : ℕ} {corners : List ℕ} (C : CornersOf list sheet line corners) where
   abbrev st : Station
   st = station_of list
 
@@ -78,23 +75,17 @@ module _ {list sheet : List ℕ} {line from to : ℕ} (C : CornersAt list sheet 
   d = shown st sheet
 
   -- its word is in the list, and its number has room in a cell
-  pub line_words : (2 + line < length list) × (line < 1024)
-  line_words = (line_word list line C.is_line, omega (arith, C.is_line, lines_most list C.passed))
+  pub line_inside : 2 + line < length list
+  line_inside = line_word list line C.is_line
 
-  -- the words of its corners are in the sheet, and its corners are read off them
-  pub corners_inside : (from ≤ to) × (to ≤ length sheet)
-  corners_inside =
-      let here : AtCable list sheet (cable_place st.parts sheet line) line = record { layout = C.layout; place = refl } in
-      omega (arith, C.starts, C.ends, cable_inside here C.is_line)
+  pub line_small : line < 1024
+  line_small = omega (arith, C.is_line, lines_most list C.passed)
 
-  pub corners_read : map word_spot (take (to - from) (drop from sheet)) ≡ (route_at d line).corners
+  corners_read : map word_spot corners ≡ (route_at d line).corners
   unfolding shown
   corners_read =
-      let n = st.parts in
-      let k = second_of (get_or sheet (cable_place n sheet line) 0) in
-      let e : to - from ≡ k = omega (arith, C.ends) in
-      rw (e, C.starts)
-      (sym (ap (λ (r : Route). r.corners) (route_read n (map (directed true) st.cables) sheet line (rw length-map C.is_line))))
+      ap (map word_spot) C.words
+      ∙ sym (ap (λ (r : Route). r.corners) (route_read st.parts (map (directed true) st.cables) sheet line (rw length-map C.is_line)))
 
   part_inside : (p : ℕ) → p < st.parts → 1 + p < length sheet
   part_inside p l = omega (arith, words_enough st.parts (length st.cables) sheet C.layout)
@@ -114,40 +105,21 @@ module _ {list sheet : List ℕ} {line from to : ℕ} (C : CornersAt list sheet 
     last_is : s.other ≡ (ends_at st forward line).last
     last_is = ap (λ (t : tables.Strand). t.other) e
 
-    pub first_inside : 1 + s.one < length sheet
-    first_inside = rw first_is (part_inside (ends_at st forward line).first (ends_are forward).0)
+    first_word : 1 + s.one < length sheet
+    first_word = rw first_is (part_inside (ends_at st forward line).first (ends_are forward).0)
 
-    pub last_inside : 1 + s.other < length sheet
-    last_inside = rw last_is (part_inside (ends_at st forward line).last (ends_are forward).1)
+    last_word : 1 + s.other < length sheet
+    last_word = rw last_is (part_inside (ends_at st forward line).last (ends_are forward).1)
 
-    module _ {p q : Spot} (f : p ≡ word_spot (get_or sheet (1 + s.one) 0)) (g : q ≡ word_spot (get_or sheet (1 + s.other) 0)) where
-      first_read : p ≡ spot_of d (ends_at st forward line).first
-      first_read =
-          f ∙ ap (λ (k : ℕ). word_spot (get_or sheet (1 + k) 0)) first_is ∙ part_spot_lem (ends_at st forward line).first (ends_are forward).0
+    -- what is read off the sheet is the cable's
+    pub trace_read : trace_off sheet s corners ≡ trace_at (station_of list) (shown (station_of list) sheet) forward line
+    trace_read =
+        let first = part_spot_lem (ends_at st forward line).first (ends_are forward).0 in
+        let last = part_spot_lem (ends_at st forward line).last (ends_are forward).1 in
+        rw (first_is, last_is, first, last, corners_read) refl
 
-      last_read : q ≡ spot_of d (ends_at st forward line).last
-      last_read =
-          g ∙ ap (λ (k : ℕ). word_spot (get_or sheet (1 + k) 0)) last_is ∙ part_spot_lem (ends_at st forward line).last (ends_are forward).1
-
-      -- the line over the spots that the code reads is the cable's
-      pub line_read :
-          line_over p (map word_spot (take (to - from) (drop from sheet))) q
-          ≡ points_read (station_of list) (shown (station_of list) sheet) forward line
-      unfolding points_read route_points
-      line_read = rw (first_read, last_read, corners_read)
-
-      -- what the code finds of the spots that it reads is so of the cable
-      pub alternates_read :
-          (r : Bool) → r ≡ alternates (line_over p (map word_spot (take (to - from) (drop from sheet))) q)
-          → r ≡ alternates (points_read st d forward line)
-      alternates_read r h = h ∙ ap alternates line_read
-
-  pub faces_read :
-      {s : tables.Strand} → s ≡ strand_for list line true → {p q : Spot} → p ≡ word_spot (get_or sheet (1 + s.one) 0)
-      → q ≡ word_spot (get_or sheet (1 + s.other) 0) → (r : Bool)
-      → r ≡ faces_forward p (map word_spot (take (to - from) (drop from sheet))) q → r ≡ facing st d line
-  unfolding facing
-  faces_read e f g r h = h ∙ rw (first_read true e f g, last_read true e f g, corners_read)
+  pub strand_inside : (forward : Bool) (s : Strand) → strand_in s ≡ strand_for list line forward → InSheet sheet s
+  strand_inside forward s e = record { one = first_word forward e; other = last_word forward e }
 
 -- All cables
 
@@ -184,42 +156,36 @@ module _ {list sheet : List ℕ} {flags : List Bool} {m : ℕ} {forward : List B
   choosing_here : AtCable list sheet at i
   choosing_here = record { layout = I.layout; place = I.place }
 
-  pub choosing_end : m ≤ i → Faced (station_of list) sheet forward m
-  choosing_end h = record {
-    few = omega (arith, I.lines);
-    flags = λ j l. I.chosen j (omega arith);
-    alternate = λ j l. I.alternate j (omega arith);
-    next = λ l. absurd (omega (arith, I.lines));
-  }
-
   module _ (h : i < m) where
-    pub choosing_inside : at < length sheet
-    choosing_inside = omega (arith, cable_inside choosing_here (omega (arith, I.lines)))
-
     pub choosing_room : i < length forward
     choosing_room = omega (arith, I.lines, I.room, lines_most list I.passed)
 
-    module _ {k : ℕ} (e : k ≡ second_of (get_or sheet at 0)) where
-      pub choosing_corners : CornersAt list sheet i (at + 1) (at + 1 + k)
-      choosing_corners = cable_corners choosing_here e I.passed (omega (arith, I.lines))
+    pub choosing_words : at + 1 + second_of (get_or sheet at 0) ≤ length sheet
+    choosing_words = cable_inside choosing_here (omega (arith, I.lines))
 
+    module _ {corners : List ℕ} (e : corners ≡ corner_words sheet at) where
       module _
-          {b a : Bool} (f : b ≡ facing (station_of list) (shown (station_of list) sheet) i)
-          (g : a ≡ alternates (points_read (station_of list) (shown (station_of list) sheet) b i))
+          {b a : Bool} {t u : Trace} (o : t ≡ trace_at (station_of list) (shown (station_of list) sheet) true i)
+          (f : b ≡ faces_forward t.first t.corners t.last) (p : u ≡ trace_at (station_of list) (shown (station_of list) sheet) b i)
+          (g : a ≡ alternates (points_along u))
         where
-          tested : a ≡ alternates_facing (station_of list) (shown (station_of list) sheet) i
-          unfolding alternates_facing
-          tested = g ∙ rw f
+          faced : b ≡ facing (station_of list) (shown (station_of list) sheet) i
+          unfolding facing
+          faced = f ∙ ap (λ (s : Trace). faces_forward s.first s.corners s.last) o
 
-          pub choosing_stops : not a ≡ true → Faced (station_of list) sheet forward i
+          tested : a ≡ alternates_facing (station_of list) (shown (station_of list) sheet) i
+          unfolding alternates_facing points_read route_points
+          tested = g ∙ ap (λ (s : Trace). alternates (points_along s)) p ∙ rw faced
+
+          pub choosing_stops : a ≡ false → Faced (station_of list) sheet forward i
           choosing_stops n = record {
             few = omega (arith, I.lines);
             flags = I.chosen;
             alternate = I.alternate;
-            next = λ l. sym tested ∙ not-true a n;
+            next = λ l. sym tested ∙ n;
           }
 
-          pub choosing_next : not a ≡ false → Choosing list sheet flags m (set forward i b) (at + 1 + k) (i + 1)
+          pub choosing_next : a ≡ true → Choosing list sheet flags m (set forward i b) (at + (1 + length corners)) (i + 1)
           choosing_next n = record {
             passed = I.passed;
             layout = I.layout;
@@ -227,9 +193,9 @@ module _ {list sheet : List ℕ} {flags : List Bool} {m : ℕ} {forward : List B
             long = simp length-set I.long;
             room = simp length-set I.room;
             few = omega arith;
-            place = (cable_next choosing_here e).place;
+            place = (cable_next choosing_here e (omega (arith, I.lines))).place;
             chosen =
                 below_more _ i (λ j l. get_or-set_other forward i j b false (λ q. omega arith) ∙ I.chosen j l)
-                (get_or-set_same forward i b false choosing_room ∙ f);
-            alternate = below_more _ i I.alternate (sym tested ∙ not-false a n);
+                (get_or-set_same forward i b false choosing_room ∙ faced);
+            alternate = below_more _ i I.alternate (sym tested ∙ n);
           }

@@ -1,65 +1,17 @@
 -- The look at a cable's end runs, case by case. Assumes nothing.
-use Prim.Native.Nat.{ℕ, suc, ◌-◌, ◌<◌, ◌≤◌, min, max}
+use Prim.Native.Nat.{ℕ, suc, ◌-◌, ◌<◌, ◌≤◌}
 use native.Mathlib.Omega.{arith}
 use mathlib.Core.Path.{◌≡◌, refl, sym, ◌∙◌}
-use mathlib.Core.Bool.{Bool, true, false, not, and-false, and-true}
-use mathlib.Core.List.{List, [], ◌∷◌, map}
+use mathlib.Core.Bool.{Bool, true, false, and-false, and-true}
+use mathlib.Core.List.{List, map}
 use lib.ListN.{length, get_or, length-map, get_or-map}
-use lib.Dec.{eqb, leb}
-use borrow.Author.Tests.{eq-eqb, ne_eqb, le-leb, lt-leb, lt-ltb, le-ltb}
+use borrow.Author.Tests.{lt-ltb, le-ltb}
 use Rattle.geometry.specs.Spots.{Spot}
 use Rattle.geometry.specs.Lines.{point}
 use Rattle.drawing.specs.Reading.{word_spot}
-use Rattle.validation.specs.Alone.{overlap, runs_share, alternates}
+use Rattle.validation.specs.Alone.{runs_share, alternates}
 use Rattle.validation.specs.Facing.{line_over, ends_share, faces_forward}
 use Rattle.validation.proofs.Directions.{line_length_lem, corner_at, last_at}
-use Rattle.directions.specs.Code.{run_of, level_first}
-
-module _ (level : Bool) (p q : Spot) where
-  pub run_level : level ≡ true → p.y ≡ q.y → not (eqb p.x q.x) ≡ run_of level p q
-  run_level e h = rw (e, eq-eqb p.y q.y h)
-
-  pub run_not_level : level ≡ true → (p.y ≡ q.y → ⊥) → eqb p.y q.y ≡ run_of level p q
-  run_not_level e h = rw (e, ne_eqb p.y q.y h)
-
-  pub run_upright : level ≡ false → p.x ≡ q.x → not (eqb p.y q.y) ≡ run_of level p q
-  run_upright e h = rw (e, eq-eqb p.x q.x h)
-
-  pub run_not_upright : level ≡ false → (p.x ≡ q.x → ⊥) → eqb p.x q.x ≡ run_of level p q
-  run_not_upright e h = rw (e, ne_eqb p.x q.x h)
-
-module _ (a b c d : ℕ) where
-  pub overlap_low :
-      (low high least most : ℕ) → low ≡ min a b → high ≡ max a b → most ≡ max c d → least ≡ min c d → low ≤ most
-      → leb least high ≡ overlap a b c d
-  unfolding overlap
-  overlap_low low high least most e f g h l = rw (← e, ← f, ← g, ← h, le-leb low most l)
-
-  pub overlap_not :
-      (low most : ℕ) → low ≡ min a b → most ≡ max c d → most < low → leb low most ≡ overlap a b c d
-  unfolding overlap
-  overlap_not low most e g l = rw (← e, ← g, lt-leb low most l)
-
-module _ (p q r t : Spot) (across : Bool) (e : across ≡ overlap p.x q.x r.x t.x) where
-  pub share_up : (up : Bool) → up ≡ overlap p.y q.y r.y t.y → across ≡ true → up ≡ runs_share p q r t
-  unfolding runs_share
-  share_up up f h = f ∙ rw (sym e ∙ h)
-
-  pub share_not : across ≡ false → across ≡ runs_share p q r t
-  unfolding runs_share
-  share_not h = h ∙ rw (sym e ∙ h)
-
--- The first run
-
-module _ (p last : Spot) where
-  pub first_alone : (ws : List ℕ) → length ws ≡ 0 → eqb p.y last.y ≡ level_first p (map word_spot ws) last
-  first_alone [] h = refl
-  first_alone (w ∷ ws) h = absurd (omega arith)
-
-  pub first_corner :
-      (ws : List ℕ) (c : Spot) → (length ws ≡ 0 → ⊥) → c ≡ word_spot (get_or ws 0 0) → eqb p.y c.y ≡ level_first p (map word_spot ws) last
-  first_corner [] c h e = absurd (h refl)
-  first_corner (w ∷ ws) c h e = rw e
 
 -- The direction
 

@@ -1,33 +1,49 @@
 // In which direction a cable's corners are read, found by a look along its line and at its end runs.
 ghost use Rattle.std.specs.Prelude.{◌≡◌, map};
 ghost use Rattle.geometry.specs.Spots.{spot_in};
-ghost use Rattle.drawing.specs.Reading.{word_spot};
 ghost use Rattle.validation.specs.Alone as tests;
+ghost use Rattle.drawing.specs.Reading.{word_spot};
 ghost use Rattle.validation.specs.Facing.{line_over, faces_forward};
-ghost use Rattle.directions.specs.Code.{run_of, level_first};
+ghost use Rattle.directions.specs.Code.{run_of, level_first, trace_of, points_along};
 
-use crate::strands::spot_in;
+use crate::strands::{Line, spot_in};
 use geometry::Spot;
-use lists::{higher, lower};
 
 // A level run or an upright run of nonzero length.
 fn is_run(level: bool, p: Spot, q: Spot) -> bool
     ensures { result ≡ run_of level (spot_in p) (spot_in q) }
 {
     if level {
-        return p.y == q.y && p.x != q.x;
+        p.y == q.y && p.x != q.x
+    } else {
+        p.x == q.x && p.y != q.y
     }
-    p.x == q.x && p.y != q.y
+}
+
+// The numbers from a to b and those from c to d have one in common.
+#[tactic(auto, unfolding(validation::specs::Alone::overlap))]
+fn overlap(a: u16, b: u16, c: u16, d: u16) -> bool
+    ensures { result ≡ tests.overlap a b c d }
+{
+    a.min(b) <= c.max(d) && c.min(d) <= a.max(b)
+}
+
+// Two runs share a spot.
+#[tactic(auto, unfolding(validation::specs::Alone::runs_share))]
+fn runs_share(p: Spot, q: Spot, r: Spot, t: Spot) -> bool
+    ensures { result ≡ tests.runs_share (spot_in p) (spot_in q) (spot_in r) (spot_in t) }
+{
+    overlap(p.x, q.x, r.x, t.x) && overlap(p.y, q.y, r.y, t.y)
 }
 
 // The first run is level.
 fn starts_level(first: Spot, corners: &[u32], last: Spot) -> bool
     ensures { result ≡ level_first (spot_in first) (map word_spot corners.now) (spot_in last) }
 {
-    if corners.len() == 0 {
-        return first.y == last.y;
+    match corners.first() {
+        Some(&word) => first.y == spot_in(word).y,
+        None => first.y == last.y,
     }
-    first.y == spot_in(corners[0]).y
 }
 
 // 'alternating level and upright runs of nonzero length'
@@ -36,45 +52,37 @@ pub fn alternates(first: Spot, corners: &[u32], last: Spot) -> bool
 {
     let mut level = starts_level(first, corners, last);
     let mut p = first;
-    let mut k = 0;
-    while k < corners.len() {
-        let q = spot_in(corners[k]);
+    for &word in corners {
+        let q = spot_in(word);
         if !is_run(level, p, q) {
             return false;
         }
         level = !level;
         p = q;
-        k += 1;
     }
     is_run(level, p, last)
-}
-
-// The numbers from a to b and those from c to d have one in common.
-fn overlap(a: u16, b: u16, c: u16, d: u16) -> bool
-    ensures { result ≡ tests.overlap a b c d }
-{
-    let low = lower(a as usize, b as usize);
-    let high = higher(a as usize, b as usize);
-    low <= higher(c as usize, d as usize) && lower(c as usize, d as usize) <= high
-}
-
-// Two runs share a spot.
-fn runs_share(p: Spot, q: Spot, r: Spot, t: Spot) -> bool
-    ensures { result ≡ tests.runs_share (spot_in p) (spot_in q) (spot_in r) (spot_in t) }
-{
-    overlap(p.x, q.x, r.x, t.x) && overlap(p.y, q.y, r.y, t.y)
 }
 
 // Whether the corners are read from the first of the two spots.
 pub fn faces_forward(first: Spot, corners: &[u32], last: Spot) -> bool
     ensures { result ≡ faces_forward (spot_in first) (map word_spot corners.now) (spot_in last) }
 {
-    let k = corners.len();
-    if k < 2 {
+    let &[one, .., other] = corners else {
         return true;
+    };
+    !runs_share(first, spot_in(one), spot_in(other), last) && alternates(first, corners, last)
+}
+
+impl Line<'_> {
+    pub fn alternates(self) -> bool
+        ensures { result ≡ tests.alternates (points_along (trace_of self.entry)) }
+    {
+        alternates(self.first, self.corners, self.last)
     }
-    if runs_share(first, spot_in(corners[0]), spot_in(corners[k - 1]), last) {
-        return false;
+
+    pub fn faces_forward(self) -> bool
+        ensures { let t = trace_of self.entry in result ≡ faces_forward t.first t.corners t.last }
+    {
+        faces_forward(self.first, self.corners, self.last)
     }
-    alternates(first, corners, last)
 }

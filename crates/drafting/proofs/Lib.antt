@@ -1,2 +1,3 @@
--- What the stages' values stand for, in a row. Assumes nothing.
+-- What the stages' values stand for, in a row (Stages), and what a stage refuses (Refusals). Assumes nothing.
 pub mod Stages
+pub mod Refusals

@@ -1,25 +1,22 @@
 -- The stages' values in a row: the layout of a list's cables in ranks stands for the drawing of its station. Assumes nothing.
-use Prim.Native.Nat.{ℕ, ◌+◌, ◌<◌, ◌≤◌, max}
+use Rattle.std.specs.Prelude.{Some, None, Option}
+use Prim.Native.Nat.{ℕ, ◌+◌, ◌<◌, max}
 use native.Mathlib.Omega.{arith}
-use mathlib.Core.Path.{◌≡◌, sym, ap, ap₂, subst, ◌∙◌}
+use mathlib.Core.Path.{◌≡◌, sym, ap, ap₂, ◌∙◌}
 use mathlib.Core.Bool.{cond}
 use mathlib.Core.List.{List}
 use lib.ListN.{length, get_or}
-use Rattle.lists.specs.declared.Found.TheVariants.{At, Nothing}
-use Rattle.words.specs.Limits.{most_cables}
-use Rattle.prices.specs.declared.Discount.{Discount}
 use Rattle.station.specs.Station.{station_of}
 use Rattle.checks.specs.Checks.{Clear}
 use Rattle.order.specs.Order.{order, rank_in}
 use Rattle.order.specs.Checks.{all_checks}
 use Rattle.order.specs.Graph.{StGraph}
-use Rattle.order.specs.RankedGraphs.{Ranked}
 use Rattle.order.specs.Orientation.{graph_of}
 use Rattle.ranking.specs.Ranking.{RankingOf, names_in, Inverse}
-use Rattle.ranking.specs.Arrays.{graph_in, GraphFits}
+use Rattle.ranking.specs.Arrays.{graph_in}
 use Rattle.ranking.specs.declared.Ranking.{Ranking}
-use Rattle.ranking.specs.declared.Graph.{Graph}
-use Rattle.order.proofs.Passed.{list_wired, list_orderable, list_ranked}
+use Rattle.ranking.specs.declared.graph.Graph.{Graph}
+use Rattle.order.proofs.Passed.{list_orderable}
 use Rattle.order.proofs.StOrder.{order_ordering}
 use Rattle.order.proofs.Ranks.{graph_parts, rank_below, part_of_rank, rank_of_part}
 use Rattle.drawing.specs.declared.spacing.Spacing.{Spacing}
@@ -35,23 +32,12 @@ use Rattle.writer.specs.Values.{Fits}
 use Rattle.hookup.proofs.Drawn.{is_renumbered, crossings_are, quoted_length_is, head_alone}
 
 module _ (list : List ℕ) (pass : Clear all_checks list) where
-  -- the layout may start from the cables in ranks
-  pub graph_fits : {g : Graph} → graph_in g ≡ graph_of (station_of list) → g.cables ≤ most_cables → GraphFits g
-  graph_fits {g} e few =
-      let n : g.parts ≡ (station_of list).parts = ap (λ (G : StGraph). G.parts) e ∙ graph_parts (station_of list) in
-      record {
-        ranked = subst Ranked (sym e) (list_ranked list pass);
-        cables = few;
-        least = omega (arith, (list_wired list pass).least);
-        most = omega (arith, (list_wired list pass).most);
-      }
-
   module _ (g : Graph) (e : graph_in g ≡ graph_of (station_of list)) where
     count : g.parts ≡ (station_of list).parts
     count = ap (λ (G : StGraph). G.parts) e ∙ graph_parts (station_of list)
 
     pub words_are :
-        (s : Spacing) (discount : Discount) → length (quoted_words s discount (layout (graph_in g))) ≡ length (quoted_words s discount (drawing (station_of list)))
+        (s : Spacing) (discount : Option ℕ) → length (quoted_words s discount (layout (graph_in g))) ≡ length (quoted_words s discount (drawing (station_of list)))
     words_are s discount =
         ap (λ (G : StGraph). length (quoted_words s discount (layout G))) e ∙ quoted_length_is (station_of list) (list_orderable list pass) s discount
 
@@ -68,15 +54,15 @@ module _ (list : List ℕ) (pass : Clear all_checks list) where
         ap (λ (G : StGraph). row_at s (layout G).height + s.margin) e
         ∙ sym (ap (λ (d : Drawing). row_at s d.height + s.margin) (is_renumbered (station_of list)))
 
-    module _ (s : Spacing) (good : check13 s ≡ Nothing) where
+    module _ (s : Spacing) (good : check13 s ≡ None) where
       pub fourteen_is : head_check (spaced s (layout (graph_in g))) ≡ check14 (spaced s (drawing (station_of list)))
       unfolding head_check
       fourteen_is =
-          ap₂ (λ (w h : ℕ). cond (too_large (max w h)) (At (max w h)) Nothing) (width_as s) (height_as s)
+          ap₂ (λ (w h : ℕ). cond (too_large (max w h)) (Some (max w h)) None) (width_as s) (height_as s)
           ∙ sym (head_alone (station_of list) (list_orderable list pass) s (passed_13 s good))
 
       -- a sheet that passed it can be written
-      pub writable : check14 (spaced s (drawing (station_of list))) ≡ Nothing → Fits s (layout (graph_in g))
+      pub writable : check14 (spaced s (drawing (station_of list))) ≡ None → Fits s (layout (graph_in g))
       writable none =
           let d : Drawing = spaced s (drawing (station_of list)) in
           record {
@@ -107,7 +93,7 @@ module _ (list : List ℕ) (pass : Clear all_checks list) where
       }
 
       pub sheet_is :
-          (s : Spacing) (discount : Discount)
+          (s : Spacing) (discount : Option ℕ)
           → quoted_words s discount (renumbered (names_in g.parts r) (layout (graph_in g))) ≡ quoted_words s discount (drawing (station_of list))
       sheet_is s discount =
           ap₂ (λ (l : List ℕ) (G : StGraph). quoted_words s discount (renumbered l (layout G))) names_are e

@@ -1,5 +1,6 @@
 -- Numbers and their fields: check 14 passes exactly where every number fits its field, and its place is the larger of the two head fields
 -- where no coordinate exceeds them. Assumes nothing.
+use Rattle.std.specs.Prelude.{Some, None}
 use Prim.Native.Nat.{ℕ, ◌<◌, ◌≤◌, max}
 use native.Mathlib.Omega.{arith}
 use native.Mathlib.Decide.{dec_lt}
@@ -10,7 +11,6 @@ use mathlib.Core.List.Memᴰ
 use mathlib.Core.List.{List, [], ◌∷◌, ◌++◌, Memᴰ}
 use lib.ListN.{get_or}
 use borrow.Author.Tests.{ltb-true, ltb-false}
-use Rattle.lists.specs.declared.Found.TheVariants.{At, Nothing}
 use Rattle.lists.specs.Select.{any, filter}
 use Rattle.lists.proofs.Select.{get_d_mem, filter_e, filter_i}
 use Rattle.lists.proofs.Any.{any_at_e, any_at_i}
@@ -120,7 +120,7 @@ module _ (d : Drawing) where
 
   -- Where check 14 passes every number fits
 
-  module _ (pass : check14 d ≡ Nothing) where
+  module _ (pass : check14 d ≡ None) where
     none_large : any too_large (numbers_of d) ≡ false
     unfolding check14
     none_large = go (any too_large (numbers_of d)) refl
@@ -168,7 +168,7 @@ module _ (d : Drawing) where
       go (yes h) = let e : larger ≡ d.height = omega arith in Memᴰ.tail (Memᴰ.head e)
       go (no h) = let e : larger ≡ d.width = omega arith in Memᴰ.head e
 
-  pub head_decides : Within larger → check14 d ≡ cond (too_large larger) (At larger) Nothing
+  pub head_decides : Within larger → check14 d ≡ cond (too_large larger) (Some larger) None
   unfolding check14
   head_decides W = go (too_large larger) refl
     where
@@ -190,6 +190,6 @@ module _ (d : Drawing) where
           absurd (omega (arith, most k (get_d_mem (numbers_of d) t.0 0 t.1), ltb-true most_field k t.2, ltb-false most_field larger e))
       none e false f = refl
 
-      go : (b : Bool) → too_large larger ≡ b → check14 d ≡ cond b (At larger) Nothing
-      go true e = rw (some_large larger larger_in e) (ap At (place e))
+      go : (b : Bool) → too_large larger ≡ b → check14 d ≡ cond b (Some larger) None
+      go true e = rw (some_large larger larger_in e) (ap Some (place e))
       go false e = rw (none e (any too_large (numbers_of d)) refl) refl

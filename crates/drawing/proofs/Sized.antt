@@ -1,5 +1,6 @@
 -- Whose drawing it is, and its sizes: what the layout shows of the drawing on the grid, under other numbers of the parts, and as it is
 -- spaced. Assumes nothing.
+use Rattle.std.specs.Prelude.{None}
 use Prim.Native.Nat.{ℕ, ◌+◌, ◌*◌, ◌<◌, ◌≤◌, max}
 use native.Mathlib.Nat.{mul_comm}
 use native.Mathlib.Omega.{arith}
@@ -12,7 +13,6 @@ use lib.ListN.{length, get_or, length-map}
 use lib.Dec.{ltb}
 use borrow.Author.Tests.{ltb-true}
 use Rattle.words.specs.Limits.{most_field}
-use Rattle.lists.specs.declared.Found.TheVariants.{Nothing}
 use Rattle.lists.specs.Select.{range, tabulate, count, index_of}
 use Rattle.lists.proofs.Select.{get_d_map, get_d_mem}
 use Rattle.lists.proofs.Places.{mem-place}
@@ -48,7 +48,7 @@ pub record Joins (n : ℕ) (ends : List Endpoints) (d : Drawing) : Type 0 where
   pub routes : (i : ℕ) → i < length ends → RouteJoins (get_or ends i no_endpoints) (route_at d i)
 
 -- where check 14 passes its numbers fit their fields
-pub joins_fit : (n : ℕ) (ends : List Endpoints) (d : Drawing) → Joins n ends d → check14 d ≡ Nothing → DrawingFits n ends d
+pub joins_fit : (n : ℕ) (ends : List Endpoints) (d : Drawing) → Joins n ends d → check14 d ≡ None → DrawingFits n ends d
 unfolding route_at
 joins_fit n ends d J pass = record {
   width_fits = omega (arith, width_small d pass);

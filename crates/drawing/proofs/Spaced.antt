@@ -1,4 +1,5 @@
 -- A spaced drawing: which spacings there are, its parts, routes, points and lengths by the grid's, and the grid's own. Assumes nothing.
+use Rattle.std.specs.Prelude.{Option, Some, None}
 use Prim.Native.Nat.{ℕ, ◌+◌, ◌-◌, ◌*◌, ◌/◌, ◌<◌, ◌≤◌}
 use native.Mathlib.Nat.{add-mul, mul-le-mul_left, mul-lt-mul_of_pos_right, mul-div_cancel}
 use native.Mathlib.Omega.{arith}
@@ -9,7 +10,6 @@ use mathlib.Core.List.{List, [], ◌∷◌, ◌++◌, map, map-append}
 use lib.ListN.{length, length-map}
 use lib.Dec.{ltb, eqb}
 use borrow.Author.Tests.{eq-eqb, ne_eqb, ltb-false, lt-ltb, le-ltb}
-use Rattle.lists.specs.declared.Found.TheVariants.{At, Nothing}
 use Rattle.lists.specs.Select.{sum}
 use Rattle.lists.proofs.Select.{get_d_map}
 use Rattle.lists.proofs.Bools.{or_fails}
@@ -52,32 +52,35 @@ good_pitch pitch e = let r = or_fails (eqb pitch 0) (ltb most_pitch pitch) e in 
 
 module _ (s : Spacing) where
   -- 'first fault given'
-  pub column_fault : bad_pitch s.column_pitch ≡ true → check13 s ≡ At 0
+  pub column_fault : bad_pitch s.column_pitch ≡ true → check13 s ≡ Some 0
   unfolding check13
   column_fault e = rw e refl
 
-  pub row_fault : bad_pitch s.column_pitch ≡ false → bad_pitch s.row_pitch ≡ true → check13 s ≡ At 1
+  pub row_fault : bad_pitch s.column_pitch ≡ false → bad_pitch s.row_pitch ≡ true → check13 s ≡ Some 1
   unfolding check13
   row_fault e f = rw (e, f) refl
 
-  pub margin_fault : bad_pitch s.column_pitch ≡ false → bad_pitch s.row_pitch ≡ false → most_margin < s.margin → check13 s ≡ At 2
+  pub margin_fault : bad_pitch s.column_pitch ≡ false → bad_pitch s.row_pitch ≡ false → most_margin < s.margin → check13 s ≡ Some 2
   unfolding check13
   margin_fault e f h = rw (e, f, lt-ltb most_margin s.margin h) refl
 
-  pub no_fault : bad_pitch s.column_pitch ≡ false → bad_pitch s.row_pitch ≡ false → s.margin ≤ most_margin → check13 s ≡ Nothing
+  pub no_fault : bad_pitch s.column_pitch ≡ false → bad_pitch s.row_pitch ≡ false → s.margin ≤ most_margin → check13 s ≡ None
   unfolding check13
   no_fault e f h = rw (e, f, le-ltb most_margin s.margin h) refl
 
-  pub passed_13 : check13 s ≡ Nothing → Spreads s
+  pub passed_13 : check13 s ≡ None → Spreads s
   unfolding check13
   passed_13 e = go (bad_pitch s.column_pitch) (bad_pitch s.row_pitch) (ltb most_margin s.margin) refl refl refl e
     where
+      some_none : (k : ℕ) → Some k ≡ None → ⊥
+      some_none k e = cc
+
       go :
           (a b c : Bool) → bad_pitch s.column_pitch ≡ a → bad_pitch s.row_pitch ≡ b → ltb most_margin s.margin ≡ c
-          → cond a (At 0) (cond b (At 1) (cond c (At 2) Nothing)) ≡ Nothing → Spreads s
-      go true b c f g h q = let z : ◌≡◌ {A = ℕ} 0 1 = cc in absurd (omega arith)
-      go false true c f g h q = let z : ◌≡◌ {A = ℕ} 0 1 = cc in absurd (omega arith)
-      go false false true f g h q = let z : ◌≡◌ {A = ℕ} 0 1 = cc in absurd (omega arith)
+          → cond {A = Option ℕ} a (Some 0) (cond {A = Option ℕ} b (Some 1) (cond {A = Option ℕ} c (Some 2) None)) ≡ None → Spreads s
+      go true b c f g h q = absurd (some_none 0 q)
+      go false true c f g h q = absurd (some_none 1 q)
+      go false false true f g h q = absurd (some_none 2 q)
       go false false false f g h q =
           let column = good_pitch s.column_pitch f in
           let row = good_pitch s.row_pitch g in
@@ -90,7 +93,7 @@ module _ (s : Spacing) where
           }
 
   -- and no others are sent back
-  pub spreads_pass : Spreads s → check13 s ≡ Nothing
+  pub spreads_pass : Spreads s → check13 s ≡ None
   spreads_pass P = no_fault (fair s.column_pitch P.column_some P.column_most) (fair s.row_pitch P.row_some P.row_most) P.margin_most
     where
       fair : (pitch : ℕ) → 0 < pitch → pitch ≤ most_pitch → bad_pitch pitch ≡ false
@@ -104,6 +107,13 @@ module _ (s : Spacing) where
     rows = λ x y h. omega (arith, mul-lt-mul_of_pos_right {m = x} {n = y} {k = s.row_pitch} h P.row_some);
   }
 
+-- what `spread` asks
+pub column_fits : (s : Spacing) → check13 s ≡ None → (s.margin ≤ most_margin) × (s.column_pitch ≤ most_pitch)
+column_fits s e = let P = passed_13 s e in (P.margin_most, P.column_most)
+
+pub row_fits : (s : Spacing) → check13 s ≡ None → (s.margin ≤ most_margin) × (s.row_pitch ≤ most_pitch)
+row_fits s e = let P = passed_13 s e in (P.margin_most, P.row_most)
+
 -- a bound, so that sums of them fit 32 bits
 pub column_small : (s : Spacing) → Spreads s → (x : ℕ) → column_at s x ≤ most_margin + x * most_pitch
 unfolding column_at
@@ -113,7 +123,7 @@ pub row_small : (s : Spacing) → Spreads s → (y : ℕ) → row_at s y ≤ mos
 unfolding row_at
 row_small s P y = omega (arith, P.margin_most, mul-le-mul_left y P.row_most)
 
-pub grid_passes : check13 on_grid ≡ Nothing
+pub grid_passes : check13 on_grid ≡ None
 unfolding check13
 grid_passes = refl
 

@@ -1,10 +1,10 @@
 -- Small drawings: document 01's triangle as words (2026-01, and with a quote 2026-05) and read back, and lines that cross. Assumes nothing.
+use Rattle.std.specs.Prelude.{Some, None}
 use Prim.Native.Nat.{ℕ}
 use mathlib.Core.Path.{◌≡◌, refl}
 use mathlib.Core.List.{List, [], ◌∷◌, ◌++◌}
 use Rattle.geometry.specs.Spots.{Spot, spot_at}
 use Rattle.drawing.specs.Drawing.{Route, Drawing, crossings}
-use Rattle.prices.specs.declared.Discount.TheVariants.{NotGiven, Given}
 use Rattle.drawing.specs.Spacing.{on_grid}
 use Rattle.drawing.specs.Sheet.{sheet_words, quoted_words}
 use Rattle.drawing.specs.Reading.{Endpoints, drawing_in, lengths_in, quote_in}
@@ -51,9 +51,9 @@ record Worked : Type 0 where
   triangle_read : drawing_in 3 (ends 0 1 ∷ ends 1 2 ∷ ends 0 2 ∷ []) thirteen ≡ triangle
   triangle_lengths : lengths_in 3 3 thirteen ≡ 0x80000001 ∷ 0x80001001 ∷ 0x80002004 ∷ 0xa0000006 ∷ []
   -- 2026-05: 'after the run lengths', with a discount of 5 in 10,000
-  triangle_quoted : quoted_words on_grid (Given 5) triangle ≡ thirteen ++ 970 ∷ 970 ∷ 1039 ∷ 2979 ∷ []
-  triangle_plain : quoted_words on_grid NotGiven triangle ≡ thirteen
-  quote_read : quote_in 3 3 (quoted_words on_grid (Given 5) triangle) ≡ 970 ∷ 970 ∷ 1039 ∷ 2979 ∷ []
+  triangle_quoted : quoted_words on_grid (Some 5) triangle ≡ thirteen ++ 970 ∷ 970 ∷ 1039 ∷ 2979 ∷ []
+  triangle_plain : quoted_words on_grid None triangle ≡ thirteen
+  quote_read : quote_in 3 3 (quoted_words on_grid (Some 5) triangle) ≡ 970 ∷ 970 ∷ 1039 ∷ 2979 ∷ []
   -- 2026-02: 'all pairs of cables whose lines cross, those that share a part too'
   crossed : crossings (over (route 2 3 [])) ≡ 1
   -- this one ends at part 0, from above

@@ -1,9 +1,7 @@
 -- Corners, counted in a drawing and told among words, and the words of a bill counted. Assumes nothing.
-use Rattle.std.specs.Prelude.{ℕ, ◌+◌, Bool, List, map, length, eqb}
+use Rattle.std.specs.Prelude.{ℕ, ◌+◌, Bool, List, map, length, eqb, Option, Some, None}
 use Rattle.lists.specs.Select.{sum}
 use Rattle.words.specs.Words.{kind_of, corner}
-use Rattle.prices.specs.declared.Discount.{Discount}
-use Rattle.prices.specs.declared.Discount.TheVariants.{NotGiven, Given}
 use Rattle.drawing.specs.Drawing.{Route}
 
 -- the corners of all routes, counted
@@ -15,6 +13,6 @@ abbrev pub is_corner : ℕ → Bool
 is_corner w = eqb (kind_of w) corner
 
 -- 2026-05: 'm + 1 words' of prices, where a discount is given
-abbrev pub quote_count : Discount → ℕ → ℕ
-quote_count NotGiven m = 0
-quote_count (Given discount) m = m + 1
+abbrev pub quote_count : Option ℕ → ℕ → ℕ
+quote_count None m = 0
+quote_count (Some discount) m = m + 1

@@ -1,11 +1,9 @@
 -- Document 01: 'A sheet is its head, the parts by number, then the cables by line, each followed by its corners from the lower-ranked end
 -- upward.' Request 2026-01: behind them the lengths of the cables; 2026-05: and behind those what the cables cost; 2026-06: all spaced,
 -- with the grid's lengths. The words of a drawing, section by section. Assumes nothing.
-use Rattle.std.specs.Prelude.{ℕ, ◌+◌, List, [], ◌∷◌, ◌++◌, map, length, get_or}
+use Rattle.std.specs.Prelude.{ℕ, ◌+◌, List, [], ◌∷◌, ◌++◌, map, length, get_or, Option, Some, None}
 use Rattle.lists.specs.Select.{tabulate, sum}
 use Rattle.words.specs.Words.{sheet_head_word, part_word, sheet_cable_word, corner_word, cable_length_word, total_length_word}
-use Rattle.prices.specs.declared.Discount.{Discount}
-use Rattle.prices.specs.declared.Discount.TheVariants.{NotGiven, Given}
 use Rattle.prices.specs.Quote.{quote_words}
 use Rattle.drawing.specs.declared.spacing.Spacing.{Spacing}
 use Rattle.geometry.specs.Spots.{Spot}
@@ -47,9 +45,9 @@ unfoldable pub lengths_section : Drawing → List ℕ
 lengths_section d = length_words (cable_lengths d)
 
 -- 2026-05: 'A call given a discount ends the sheet with' the bill
-unfoldable pub quote_section : Discount → Drawing → List ℕ
-quote_section NotGiven d = []
-quote_section (Given discount) d = quote_words discount (cable_lengths d)
+unfoldable pub quote_section : Option ℕ → Drawing → List ℕ
+quote_section None d = []
+quote_section (Some discount) d = quote_words discount (cable_lengths d)
 
 -- the words that show a drawing: head, parts, and cables with their corners
 unfoldable pub drawing_words : Drawing → List ℕ
@@ -60,5 +58,5 @@ unfoldable pub sheet_words : Spacing → Drawing → List ℕ
 sheet_words spacing d = drawing_words (spaced spacing d) ++ lengths_section d
 
 -- 2026-05: and the bill, 'after the run lengths', which still counts grid steps too
-unfoldable pub quoted_words : Spacing → Discount → Drawing → List ℕ
+unfoldable pub quoted_words : Spacing → Option ℕ → Drawing → List ℕ
 quoted_words spacing discount d = sheet_words spacing d ++ quote_section discount d

@@ -1,8 +1,7 @@
 -- What demand 3 says of sizes, and request 2026-06 of a sheet's head: of the grid's drawing of n parts and m cables, of the drawing on the
 -- sheet, and of its words. Assumes nothing.
-use Rattle.std.specs.Prelude.{ℕ, ◌+◌, ◌*◌, ◌-◌, ◌<◌, ◌≤◌, ◌≡◌, ◌⊎◌, List, length, ltb}
+use Rattle.std.specs.Prelude.{ℕ, ◌+◌, ◌*◌, ◌-◌, ◌<◌, ◌≤◌, ◌≡◌, ◌⊎◌, List, length, ltb, Option}
 use Rattle.lists.specs.Select.{count}
-use Rattle.prices.specs.declared.Discount.{Discount}
 use Rattle.drawing.specs.declared.spacing.Spacing.{Spacing}
 use Rattle.geometry.specs.Lines.{point}
 use Rattle.drawing.specs.Drawing.{Route, Drawing, spot_of, route_at, points_at}
@@ -27,7 +26,7 @@ pub record Sizes (spacing : Spacing) (n m : ℕ) (grid d : Drawing) (sheet : Lis
 
 -- 'The sheet has m - n + 1 as width, n - 1 + d + e as height, 2m - 2n + 2 + d + e corners and 3m - n + 3 + d + e words', of the grid and
 -- with the words that 2026-01 and 2026-05 add: m + 1 lengths, and the bill. The extra rows below and above are document 01's d and e.
-pub record Exactly (discount : Discount) (n m below above : ℕ) (grid : Drawing) (sheet : List ℕ) : Type 0 where
+pub record Exactly (discount : Option ℕ) (n m below above : ℕ) (grid : Drawing) (sheet : List ℕ) : Type 0 where
   pub width : grid.width + n ≡ m + 1
   pub height : grid.height ≡ n - 1 + below + above
   pub corners : count is_corner sheet + 2 * n ≡ 2 * m + 2 + below + above

@@ -1,7 +1,5 @@
 -- Request 2026-06: a drawing spaced for print, and which spacings and drawings are sent back. Assumes nothing.
-use Rattle.std.specs.Prelude.{ℕ, ◌+◌, ◌*◌, max, Bool, cond, ◌||◌, List, [], ◌∷◌, ◌++◌, map, eqb, ltb}
-use Rattle.lists.specs.declared.Found.{Found}
-use Rattle.lists.specs.declared.Found.TheVariants.{At, Nothing}
+use Rattle.std.specs.Prelude.{ℕ, ◌+◌, ◌*◌, max, Bool, cond, ◌||◌, List, [], ◌∷◌, ◌++◌, map, eqb, ltb, Option, Some, None}
 use Rattle.lists.specs.Select.{any, filter}
 use Rattle.words.specs.Limits.{most_field}
 use Rattle.drawing.specs.declared.spacing.Spacing.{Spacing}
@@ -52,9 +50,9 @@ abbrev pub bad_pitch : ℕ → Bool
 bad_pitch pitch = eqb pitch 0 || ltb most_pitch pitch
 
 -- 13: 'a pitch of 0 or above 64, or a margin above 255 .., place 0 for column pitch, 1 for row pitch, 2 for margin, first fault given'
-unfoldable pub check13 : Spacing → Found
+unfoldable pub check13 : Spacing → Option ℕ
 check13 s =
-    cond (bad_pitch s.column_pitch) (At 0) (cond (bad_pitch s.row_pitch) (At 1) (cond (ltb most_margin s.margin) (At 2) Nothing))
+    cond (bad_pitch s.column_pitch) (Some 0) (cond (bad_pitch s.row_pitch) (Some 1) (cond (ltb most_margin s.margin) (Some 2) None))
 
 -- Drawings that are sent back
 
@@ -80,5 +78,5 @@ abbrev pub too_large : ℕ → Bool
 too_large k = ltb most_field k
 
 -- 14: 'a coordinate or head field above 4,095 .., its place the largest such number'
-unfoldable pub check14 : Drawing → Found
-check14 d = cond (any too_large (numbers_of d)) (At (largest (filter too_large (numbers_of d)))) Nothing
+unfoldable pub check14 : Drawing → Option ℕ
+check14 d = cond (any too_large (numbers_of d)) (Some (largest (filter too_large (numbers_of d)))) None

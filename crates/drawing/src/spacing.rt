@@ -1,16 +1,14 @@
 // The spacing of a sheet for print (request 2026-06).
-ghost use Rattle.std.specs.Prelude.{◌≡◌, ◌+◌, ◌*◌, ◌≤◌};
-ghost use Rattle.lists.specs.declared.Found.TheVariants.{Nothing};
+ghost use Rattle.std.specs.Prelude.{◌≡◌, ◌+◌, ◌*◌, ◌≤◌, None};
 ghost use Rattle.words.specs.Limits.{most_field};
 ghost use Rattle.geometry.specs.Spots.{spot_in};
 ghost use Rattle.drawing.specs.Spacing as terms;
 ghost use Rattle.drawing.specs.Spacing.{most_pitch, most_margin, spacing_of, on_grid, column_at, row_at, spaced_spot, bad_pitch};
 
 use geometry::Spot;
-use lists::Found;
 
 // What a caller may give: 'a column pitch, a row pitch and a margin'.
-#[derive(Clone, Copy)]
+#[derive(Clone, Copy, Debug, PartialEq, Eq)]
 pub struct Spacing {
     pub column_pitch: u32,
     pub row_pitch: u32,
@@ -38,65 +36,65 @@ impl Spacing {
     {
         Spacing::of(1, 1, 0)
     }
+
+    // 'margin + x × column pitch'. A method for each pitch, as the document names them.
+    #[tactic(auto, unfolding(crate::specs::Spacing::column_at), using(crate::proofs::Spaced::column_fits))]
+    pub fn column_at(self, x: u16) -> u32
+        requires { terms.check13 self ≡ None }
+        ensures { result ≡ column_at self x }
+    {
+        spread(self.margin, self.column_pitch, x)
+    }
+
+    // 'y likewise with the row pitch'.
+    #[tactic(auto, unfolding(crate::specs::Spacing::row_at), using(crate::proofs::Spaced::row_fits))]
+    pub fn row_at(self, y: u16) -> u32
+        requires { terms.check13 self ≡ None }
+        ensures { result ≡ row_at self y }
+    {
+        spread(self.margin, self.row_pitch, y)
+    }
+
+    // Where a spot of the grid is on the sheet.
+    #[tactic(auto, unfolding(crate::specs::Spacing::spaced_spot))]
+    pub fn space_spot(self, p: Spot) -> Spot
+        requires spacing_value { terms.check13 self ≡ None }
+        requires fits { (column_at self p.x ≤ most_field) × (row_at self p.y ≤ most_field) }
+        ensures { spot_in result ≡ spaced_spot self (spot_in p) }
+    {
+        Spot {
+            x: self.column_at(p.x) as u16,
+            y: self.row_at(p.y) as u16,
+        }
+    }
+
+    // 13: 'a pitch of 0 or above 64, or a margin above 255 .., place 0 for column pitch, 1 for row pitch, 2 for margin, first fault given'.
+    #[tactic(auto, unfolding(crate::specs::Spacing::check13))]
+    pub fn check13(self) -> Option<usize>
+        ensures { result ≡ terms.check13 self }
+    {
+        if is_bad_pitch(self.column_pitch) {
+            Some(0)
+        } else if is_bad_pitch(self.row_pitch) {
+            Some(1)
+        } else if self.margin > MOST_MARGIN {
+            Some(2)
+        } else {
+            None
+        }
+    }
 }
 
 fn spread(margin: u32, pitch: u32, x: u16) -> u32
     requires { (margin ≤ most_margin) × (pitch ≤ most_pitch) }
     ensures { result ≡ margin + x * pitch }
 {
-    margin + x as u32 * pitch
-}
-
-// 'margin + x × column pitch'.
-pub fn column_at(spacing: Spacing, x: u16) -> u32
-    requires { terms.check13 spacing ≡ Nothing }
-    ensures { result ≡ column_at spacing x }
-{
-    spread(spacing.margin, spacing.column_pitch, x)
-}
-
-// 'y likewise with the row pitch'.
-pub fn row_at(spacing: Spacing, y: u16) -> u32
-    requires { terms.check13 spacing ≡ Nothing }
-    ensures { result ≡ row_at spacing y }
-{
-    spread(spacing.margin, spacing.row_pitch, y)
-}
-
-// Where a spot of the grid is on the sheet.
-pub fn space_spot(p: Spot, spacing: Spacing) -> Spot
-    requires spacing_value { terms.check13 spacing ≡ Nothing }
-    requires x_bound { (column_at spacing p.x ≤ most_field) × (row_at spacing p.y ≤ most_field) }
-    ensures { spot_in result ≡ spaced_spot spacing (spot_in p) }
-{
-    Spot {
-        x: column_at(spacing, p.x) as u16,
-        y: row_at(spacing, p.y) as u16,
-    }
+    margin + u32::from(x) * pitch
 }
 
 // 'a pitch of 0 or above 64'.
 fn is_bad_pitch(pitch: u32) -> bool
     ensures { result ≡ bad_pitch pitch }
 {
-    if pitch == 0 {
-        return true;
-    }
-    pitch > MOST_PITCH
-}
-
-// 13: 'a pitch of 0 or above 64, or a margin above 255 .., place 0 for column pitch, 1 for row pitch, 2 for margin, first fault given'.
-pub fn check13(spacing: Spacing) -> Found
-    ensures { result ≡ terms.check13 spacing }
-{
-    if is_bad_pitch(spacing.column_pitch) {
-        return Found::At(0);
-    }
-    if is_bad_pitch(spacing.row_pitch) {
-        return Found::At(1);
-    }
-    if spacing.margin > MOST_MARGIN {
-        return Found::At(2);
-    }
-    Found::Nothing
+    pitch == 0 || pitch > MOST_PITCH
 }

@@ -2,8 +2,8 @@
 // proposal committed, in the terms of optimistic concurrency control.
 #![tactic(auto)]
 
-use checks::Verdict;
-use editor::{Proposal, Proposed};
+use checks::{Fault, Refusal};
+use editor::Proposal;
 use list::{cables_present, check_row};
 
 mod cable;
@@ -15,52 +15,44 @@ ghost use Rattle.editor.specs.Checks.{row_checks, new_checks, commit_checks};
 ghost use Rattle.editor.specs.Operations.{Commit, effect, proposed};
 
 // Checks 5 to 8 of the list with the new cable, and 16, where the list passes checks 1 to 8.
-fn check_new(row: &[u32], one: u32, other: u32) -> Verdict
+fn check_new(row: &[u32], one: u32, other: u32) -> Result<(), Refusal>
     requires { Clear row_checks row.now }
     ensures { result ≡ first_refusal (new_checks one other) row.now }
 {
     let length = list::list_length(row);
-    if let Verdict::Refused { check, place } = cable::check_cable(&row[..length], one, other) {
-        return Verdict::Refused { check, place };
-    }
+    cable::check_cable(&row[..length], one, other)?;
     if row.len() <= length {
-        return Verdict::Refused {
-            check: 16,
+        return Err(Refusal {
+            fault: Fault::RowFull,
             place: row.len(),
-        };
+        });
     }
-    Verdict::Passed
+    Ok(())
 }
 
 // The checks of a commit: those of the list as it is, 15, and those of the new cable anew.
-fn check_commit(row: &[u32], proposal: Proposal) -> Verdict
+fn check_commit(row: &[u32], proposal: Proposal) -> Result<(), Refusal>
     ensures { result ≡ first_refusal (commit_checks proposal) row.now }
 {
-    if let Verdict::Refused { check, place } = check_row(row) {
-        return Verdict::Refused { check, place };
-    }
+    check_row(row)?;
     let present = cables_present(row);
     if proposal.version != present {
-        return Verdict::Refused {
-            check: 15,
+        return Err(Refusal {
+            fault: Fault::StaleProposal,
             place: present as usize,
-        };
+        });
     }
     check_new(row, proposal.one, proposal.other)
 }
 
 // The document's 'try': a proposal of this cable for the list in the row, or the refusal that it would get.
-pub fn propose(row: &[u32], one: u32, other: u32) -> Proposed
+pub fn propose(row: &[u32], one: u32, other: u32) -> Result<Proposal, Refusal>
     ensures { result ≡ proposed one other row.now }
 {
-    if let Verdict::Refused { check, place } = check_row(row) {
-        return Proposed::Refused { check, place };
-    }
-    if let Verdict::Refused { check, place } = check_new(row, one, other) {
-        return Proposed::Refused { check, place };
-    }
+    check_row(row)?;
+    check_new(row, one, other)?;
     let version = cables_present(row);
-    Proposed::Valid(Proposal {
+    Ok(Proposal {
         one,
         other,
         version,
@@ -68,12 +60,10 @@ pub fn propose(row: &[u32], one: u32, other: u32) -> Proposed
 }
 
 // The document's 'lay': the proposal's cable becomes the last of the list in the row, or the row stays as it is.
-pub fn commit(row: &mut [u32], proposal: Proposal) -> Verdict
+pub fn commit(row: &mut [u32], proposal: Proposal) -> Result<(), Refusal>
     ensures { record { verdict = result; row = row.new } ≡ effect (Commit proposal) row.old }
 {
-    if let Verdict::Refused { check, place } = check_commit(row, proposal) {
-        return Verdict::Refused { check, place };
-    }
+    check_commit(row, proposal)?;
     list::store_cable(row, proposal);
-    Verdict::Passed
+    Ok(())
 }

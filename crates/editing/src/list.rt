@@ -6,7 +6,7 @@ ghost use Rattle.editor.specs.Checks.{row_checks};
 ghost use Rattle.editor.specs.Operations.{stored};
 ghost use Rattle.editing.specs.Code.{Storable};
 
-use checks::Verdict;
+use checks::Refusal;
 use editor::Proposal;
 use words::{Part, Word};
 
@@ -22,18 +22,14 @@ pub fn cables_present(row: &[u32]) -> u32
 pub fn list_length(row: &[u32]) -> usize
     ensures { result ≡ length (list_in row.now) }
 {
-    if row.len() == 0 {
+    if row.is_empty() {
         return 0;
     }
-    let due = cables_present(row) as usize + 2;
-    if row.len() < due {
-        return row.len();
-    }
-    due
+    row.len().min(cables_present(row) as usize + 2)
 }
 
 // 'Each call first makes checks 1 to 8 on it'.
-pub fn check_row(row: &[u32]) -> Verdict
+pub fn check_row(row: &[u32]) -> Result<(), Refusal>
     ensures { result ≡ first_refusal row_checks row.now }
 {
     listing::check_list(&row[..list_length(row)])

@@ -1,12 +1,11 @@
 -- What lies behind the list in a row counts for nothing: an answer depends on the list and on the row's length alone. Assumes nothing.
+use Rattle.std.specs.Prelude.{Option, Ok, Err}
 use Prim.Native.Nat.{ℕ}
 use mathlib.Core.Path.{◌≡◌, refl, sym, ap, ap₂, ◌∙◌}
 use mathlib.Core.List.{List, [], ◌∷◌, ◌++◌}
 use lib.ListN.{length}
-use Rattle.lists.specs.declared.Found.{Found}
-use Rattle.checks.specs.declared.Verdict.{Verdict}
-use Rattle.checks.specs.declared.Verdict.TheVariants.{Passed, Refused}
-use Rattle.checks.specs.Checks.{Check, or_else, first_refusal, made_on}
+use Rattle.checks.specs.declared.Fault.TheVariants as faults
+use Rattle.checks.specs.Checks.{Check, or_else, first_refusal, made_on, Verdict, passed}
 use Rattle.checks.proofs.FirstRefusal.{rest_decides, refused_before, made_on_lem}
 use Rattle.editor.specs.declared.Proposal.{Proposal}
 use Rattle.editor.specs.Rows.{present, list_in}
@@ -23,12 +22,12 @@ module _ (row other : List ℕ) (same : list_in row ≡ list_in other) (long : l
   together cs ds c d = go (first_refusal cs row) refl
     where
       go : (v : Verdict) → first_refusal cs row ≡ v → Alike (cs ++ ds)
-      go Passed e = rest_decides row cs ds e ∙ d ∙ sym (rest_decides other cs ds (sym c ∙ e))
-      go (Refused n p) e = refused_before row cs ds n p e ∙ sym (refused_before other cs ds n p (sym c ∙ e))
+      go (Ok u) e = rest_decides row cs ds e ∙ d ∙ sym (rest_decides other cs ds (sym c ∙ e))
+      go (Err r) e = refused_before row cs ds r.fault r.place e ∙ sym (refused_before other cs ds r.fault r.place (sym c ∙ e))
 
   one_check : (c : Check) → c.finds row ≡ c.finds other → Alike (c ∷ [])
   unfolding first_refusal
-  one_check c e = ap (λ (f : Found). or_else c.number f Passed) e
+  one_check c e = ap (λ (f : Option ℕ). or_else c.fault f passed) e
 
   of_list : (checks : List Check) → Alike (made_on list_in checks)
   of_list checks = made_on_lem list_in checks row ∙ ap (first_refusal checks) same ∙ sym (made_on_lem list_in checks other)
@@ -39,8 +38,8 @@ module _ (row other : List ℕ) (same : list_in row ≡ list_in other) (long : l
   new_same : (a b : ℕ) → Alike (new_checks a b)
   unfolding new_checks check16
   new_same a b =
-      together (made_on list_in (cable_checks a b)) (record { number = 16; finds = check16 } ∷ []) (of_list (cable_checks a b))
-      (one_check (record { number = 16; finds = check16 }) (rw (long, present_same)))
+      together (made_on list_in (cable_checks a b)) (record { fault = faults.RowFull; finds = check16 } ∷ []) (of_list (cable_checks a b))
+      (one_check (record { fault = faults.RowFull; finds = check16 }) (rw (long, present_same)))
 
   propose_verdict : (a b : ℕ) → Alike (propose_checks a b)
   unfolding propose_checks row_checks
@@ -49,8 +48,8 @@ module _ (row other : List ℕ) (same : list_in row ≡ list_in other) (long : l
   pub commit_same : (p : Proposal) → (effect (Commit p) row).verdict ≡ (effect (Commit p) other).verdict
   unfolding effect checks_of commit_checks row_checks check15
   commit_same p =
-      together row_checks (record { number = 15; finds = check15 p.version } ∷ new_checks p.one p.other) (of_list _)
-      (together (record { number = 15; finds = check15 p.version } ∷ []) (new_checks p.one p.other) (one_check (record { number = 15; finds = check15 p.version }) (rw present_same)) (new_same p.one p.other))
+      together row_checks (record { fault = faults.StaleProposal; finds = check15 p.version } ∷ new_checks p.one p.other) (of_list _)
+      (together (record { fault = faults.StaleProposal; finds = check15 p.version } ∷ []) (new_checks p.one p.other) (one_check (record { fault = faults.StaleProposal; finds = check15 p.version }) (rw present_same)) (new_same p.one p.other))
 
   pub propose_same : (a b : ℕ) → proposed a b row ≡ proposed a b other
   unfolding proposed effect checks_of slip

@@ -1,4 +1,5 @@
 -- What a lay that passes its checks leaves to be stored, and that a slip just given passes them. Assumes nothing.
+use Rattle.checks.specs.declared.Fault.{Fault}
 use Prim.Native.Nat.{ℕ, ◌+◌, ◌<◌, ◌≤◌}
 use mathlib.Core.Path.{◌≡◌, refl, sym, ◌∙◌}
 use mathlib.Core.List.Memᴰ
@@ -7,8 +8,8 @@ use borrow.Author.Tests.{leb-false, eqb-true, eq-eqb, ne_eqb, not-false}
 use lib.ListN.{length}
 use lib.Dec.{eqb}
 use Rattle.words.specs.Limits.{most_field}
-use Rattle.checks.specs.declared.Verdict.TheVariants.{Refused}
-use Rattle.checks.specs.Checks.{Check, or_else, first_refusal, Clear, at_when, made_on}
+use Rattle.checks.specs.declared.Fault.TheVariants as faults
+use Rattle.checks.specs.Checks.{Check, or_else, first_refusal, Clear, at_when, made_on, refused}
 use Rattle.station.specs.Checks.{list_checks}
 use Rattle.checks.proofs.FirstRefusal.{rest_decides, first_found, refused_before, clear_prefix, clear_rest, clear_each, at_when_nothing, made_on_lem}
 use Rattle.editor.specs.declared.Proposal.{Proposal}
@@ -35,10 +36,10 @@ head_fits {p} {row} F = rw (← head_is row) (few (list_in row) F.passed)
 
 -- the checks of a commit behind those of the list as it is
 abbrev new_commit : Proposal → List Check
-new_commit p = record { number = 15; finds = check15 p.version } ∷ new_checks p.one p.other
+new_commit p = record { fault = faults.StaleProposal; finds = check15 p.version } ∷ new_checks p.one p.other
 
 abbrev room_check : List Check
-room_check = record { number = 16; finds = check16 } ∷ []
+room_check = record { fault = faults.RowFull; finds = check16 } ∷ []
 
 module _ (p : Proposal) (row : List ℕ) (C : Clear (commit_checks p) row) where
   new : Clear (new_commit p) row
@@ -46,7 +47,7 @@ module _ (p : Proposal) (row : List ℕ) (C : Clear (commit_checks p) row) where
   new = clear_rest row row_checks (new_commit p) C
 
   of_new : Clear (new_checks p.one p.other) row
-  of_new = clear_rest row (record { number = 15; finds = check15 p.version } ∷ []) (new_checks p.one p.other) new
+  of_new = clear_rest row (record { fault = faults.StaleProposal; finds = check15 p.version } ∷ []) (new_checks p.one p.other) new
 
   of_cable : Clear (cable_checks p.one p.other) (list_in row)
   unfolding new_checks
@@ -71,15 +72,15 @@ module _ (p : Proposal) (row : List ℕ) (C : Clear (commit_checks p) row) where
       }
 
 -- a refusal of the list as it is
-pub row_refused : (p : Proposal) (row : List ℕ) (check place : ℕ) → first_refusal row_checks row ≡ Refused check place → first_refusal (commit_checks p) row ≡ Refused check place
+pub row_refused : (p : Proposal) (row : List ℕ) (check : Fault) (place : ℕ) → first_refusal row_checks row ≡ refused check place → first_refusal (commit_checks p) row ≡ refused check place
 unfolding commit_checks
 row_refused p row check place e = refused_before row row_checks (new_commit p) check place e
 
 -- 15: a slip of another version
-pub stale_refused : (p : Proposal) (row : List ℕ) → Clear list_checks (list_in row) → (p.version ≡ present row → ⊥) → first_refusal (commit_checks p) row ≡ Refused 15 (present row)
+pub stale_refused : (p : Proposal) (row : List ℕ) → Clear list_checks (list_in row) → (p.version ≡ present row → ⊥) → first_refusal (commit_checks p) row ≡ refused faults.StaleProposal (present row)
 unfolding commit_checks check15 at_when
 stale_refused p row C h =
-    first_found row row_checks (record { number = 15; finds = check15 p.version }) (new_checks p.one p.other) (present row) (row_verdict row ∙ C)
+    first_found row row_checks (record { fault = faults.StaleProposal; finds = check15 p.version }) (new_checks p.one p.other) (present row) (row_verdict row ∙ C)
     (rw (ne_eqb p.version (present row) h))
 
 -- of the present version: what is said of the new cable

@@ -1,5 +1,6 @@
 -- A list that passes checks 1 to 8, with one more cable, whose parts have room in their fields: what each of checks 1 to 8 finds. Checks 1
 -- to 4 find nothing, 5 and 6 nothing but the new word, and 8 nothing but its two parts. Assumes nothing.
+use Rattle.std.specs.Prelude.{Some, None}
 use Prim.Native.Nat.{ℕ, suc, ◌+◌, ◌-◌, ◌<◌, ◌≤◌, min, max}
 use native.Mathlib.Omega.{arith}
 use native.Mathlib.Decide.{ℕ_discrete, dec_lt}
@@ -11,7 +12,6 @@ use borrow.Author.Tests.{eq-eqb, ne_eqb, lt-ltb, le-ltb}
 use lib.ListN.{length, get_or, set, length-set}
 use lib.Seq.{get_or-append_seam}
 use lib.Dec.{eqb, ltb}
-use Rattle.lists.specs.declared.Found.TheVariants.{At, Nothing}
 use Rattle.lists.specs.Search.{seek}
 use Rattle.lists.specs.Select.{one_if, count, filter}
 use Rattle.lists.proofs.Seek.{seek_last, seek_none, seek_nothing, seek_first}
@@ -20,6 +20,7 @@ use Rattle.lists.proofs.Tests.{one_if_le}
 use Rattle.words.specs.Words.{kind_of, spare_of, first_of, second_of, parts_of, cables_of, list_head, cable_word}
 use Rattle.words.specs.Limits.{least_parts, most_parts, most_degree, most_field}
 use Rattle.station.specs.Station.{cable_of, station_of, joins, degree}
+use Rattle.checks.specs.declared.Fault.TheVariants as faults
 use Rattle.checks.specs.Checks.{first_refusal, Clear, at_when}
 use Rattle.station.specs.Checks.{check1, kind_at, misplaced, check2, check3, check4, outside, check5, check6, check8, list_checks}
 use Rattle.station.specs.Code.{up_to}
@@ -91,7 +92,7 @@ module _ (list : List ℕ) (C : Clear list_checks list) where
     head_kind = ap kind_of head_longer ∙ raised_kind (get_or list 0 0) 1 few
 
     -- ---- checks 1 to 4
-    one_clear : check1 new ≡ Nothing
+    one_clear : check1 new ≡ None
     unfolding check1 at_when
     one_clear = rw (le-ltb (length new) 2 (omega (arith, length_longer, two)))
 
@@ -109,23 +110,23 @@ module _ (list : List ℕ) (C : Clear list_checks list) where
         (λ q. omega arith))
         ∙ rw (eq-eqb (spare_of word) 0 (omega arith)))
 
-    two_clear : check2 new ≡ Nothing
+    two_clear : check2 new ≡ None
     unfolding check2
     two_clear = seek_none (λ i. misplaced i (get_or new i 0)) 0 (length new) (λ i g h. placed_right i (omega arith) (ℕ_discrete i 0) (dec_lt i (length list)))
 
-    three_clear : check3 new ≡ Nothing
+    three_clear : check3 new ≡ None
     three_clear = sym (length_right new (omega (arith, length_longer, due, cables_longer)))
 
-    four_clear : check4 new ≡ Nothing
+    four_clear : check4 new ≡ None
     four_clear = sym (parts_right new (omega (arith, between.0, parts_longer)) (omega (arith, between.1, parts_longer)))
 
     -- checks 1 to 4 find nothing
     pub form_clear : Clear (up_to 4) (longer one other list)
     unfolding list_checks filter first_refusal
     form_clear =
-        clear_more new (up_to 3) (record { number = 4; finds = check4 })
-        (clear_more new (up_to 2) (record { number = 3; finds = check3 })
-        (clear_more new (up_to 1) (record { number = 2; finds = check2 }) (clear_more new (up_to 0) (record { number = 1; finds = check1 }) refl one_clear) two_clear)
+        clear_more new (up_to 3) (record { fault = faults.WrongPartCount; finds = check4 })
+        (clear_more new (up_to 2) (record { fault = faults.WrongLength; finds = check3 })
+        (clear_more new (up_to 1) (record { fault = faults.MisplacedWord; finds = check2 }) (clear_more new (up_to 0) (record { fault = faults.TooFewWords; finds = check1 }) refl one_clear) two_clear)
         three_clear)
         four_clear
 
@@ -207,7 +208,7 @@ module _ (list : List ℕ) (C : Clear list_checks list) where
       room_below p l = not_over p (omega arith) (λ e. absurd (omega arith)) (λ e. absurd (omega arith))
 
       -- the lower of the two parts has as many cables as it may
-      eight_lower : most_degree ≤ degree (station_of list).cables (min one other) → check8 (longer one other list) ≡ At (min one other)
+      eight_lower : most_degree ≤ degree (station_of list).cables (min one other) → check8 (longer one other list) ≡ Some (min one other)
       unfolding check8 over
       eight_lower full =
           rw parts_same
@@ -223,7 +224,7 @@ module _ (list : List ℕ) (C : Clear list_checks list) where
         room_between p l (no n) = not_over p (omega arith) (λ q. absurd (omega arith)) (λ q. absurd (omega arith))
 
         -- the higher one alone
-        eight_higher : most_degree ≤ degree (station_of list).cables (max one other) → check8 (longer one other list) ≡ At (max one other)
+        eight_higher : most_degree ≤ degree (station_of list).cables (max one other) → check8 (longer one other list) ≡ Some (max one other)
         unfolding check8 over
         eight_higher full =
             rw parts_same
@@ -235,7 +236,7 @@ module _ (list : List ℕ) (C : Clear list_checks list) where
             go (no l) = over_one (max one other) (omega arith) full
 
         -- neither
-        eight_clear : degree (station_of list).cables (max one other) < most_degree → check8 (longer one other list) ≡ Nothing
+        eight_clear : degree (station_of list).cables (max one other) < most_degree → check8 (longer one other list) ≡ None
         unfolding check8 over
         eight_clear more = rw parts_same (seek_none over 0 (parts_of (get_or list 0 0)) (λ p a l. go p l (ℕ_discrete p (min one other)) (ℕ_discrete p (max one other))))
           where
@@ -264,13 +265,13 @@ module _ (list : List ℕ) (C : Clear list_checks list) where
     pub higher_part : max one other < most_parts
     higher_part = omega (arith, low, high, between.1)
 
-    pub crowded_lower : most_degree ≤ degree (station_of list).cables (min one other) → check8 (longer one other list) ≡ At (min one other)
+    pub crowded_lower : most_degree ≤ degree (station_of list).cables (min one other) → check8 (longer one other list) ≡ Some (min one other)
     crowded_lower full = eight_lower one other small_one small_other low high full
 
     pub crowded_higher : degree (station_of list).cables (min one other) < most_degree → most_degree ≤ degree (station_of list).cables (max one other)
-        → check8 (longer one other list) ≡ At (max one other)
+        → check8 (longer one other list) ≡ Some (max one other)
     crowded_higher room full = eight_higher one other small_one small_other low high room full
 
     pub crowded_neither : degree (station_of list).cables (min one other) < most_degree → degree (station_of list).cables (max one other) < most_degree
-        → check8 (longer one other list) ≡ Nothing
+        → check8 (longer one other list) ≡ None
     crowded_neither room more = eight_clear one other small_one small_other low high room more

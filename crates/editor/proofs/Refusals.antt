@@ -1,4 +1,6 @@
 -- Which refusals each operation gives, and a row that always has room. Assumes nothing.
+use Rattle.checks.specs.declared.Fault.{Fault}
+use Rattle.std.specs.Prelude.{Ok, Err}
 use Prim.Native.Nat.{ℕ, ◌+◌, ◌*◌, ◌<◌, ◌≤◌}
 use native.Mathlib.Omega.{arith}
 use native.Mathlib.Decide.{ℕ_discrete, dec_lt}
@@ -8,12 +10,11 @@ use mathlib.Core.List.{List, [], ◌∷◌, Memᴰ}
 use lib.ListN.{length, get_or}
 use Rattle.lists.specs.Select.{up_from}
 use Rattle.words.specs.Words.{parts_of}
-use Rattle.checks.specs.declared.Verdict.{Verdict}
-use Rattle.checks.specs.declared.Verdict.TheVariants.{Passed, Refused}
 use Rattle.station.specs.Station.{station_of}
-use Rattle.checks.specs.Checks.{first_refusal, Clear}
+use Rattle.checks.specs.Checks.{first_refusal, Clear, Verdict, passed, refused, number_of}
 use Rattle.station.specs.Checks.{list_checks}
-use Rattle.checks.proofs.FirstRefusal.{rest_decides, refused_before}
+use Rattle.checks.specs.declared.Fault.TheVariants as faults
+use Rattle.checks.proofs.FirstRefusal.{rest_decides, refused_before, same_fault}
 use Rattle.station.proofs.Numbers.{Numbered, without_7, list_number}
 use Rattle.station.proofs.Cables.{parts_are, cables_count}
 use Rattle.station.proofs.Passed.{wired, cables_few}
@@ -26,68 +27,68 @@ use Rattle.editor.proofs.Verdicts.{row_verdict, cable_fits, cable_refused, no_ro
 use Rattle.editor.proofs.Commits.{row_refused, stale_refused, present_decides}
 
 -- trying: 1 to 8 without 7, or 16
-abbrev pub WhenProposed : ℕ → Type 0
-WhenProposed check = Numbered 8 check ⊎ (check ≡ 16)
+abbrev pub WhenProposed : Fault → Type 0
+WhenProposed check = Numbered 8 (number_of check) ⊎ (check ≡ faults.RowFull)
 
 -- laying: these, or 15
-abbrev pub WhenCommitted : ℕ → Type 0
-WhenCommitted check = WhenProposed check ⊎ (check ≡ 15)
+abbrev pub WhenCommitted : Fault → Type 0
+WhenCommitted check = WhenProposed check ⊎ (check ≡ faults.StaleProposal)
 
 -- one of 5, 6 and 8 is one of 1 to 8
-of_list : {check : ℕ} → Memᴰ check (5 ∷ 6 ∷ 8 ∷ []) → Numbered 8 check
+of_list : (check : Fault) → Memᴰ (number_of check) (5 ∷ 6 ∷ 8 ∷ []) → Numbered 8 (number_of check)
 unfolding up_from
-of_list m = without_7 1 (Memᴰ.tail (Memᴰ.tail (Memᴰ.tail (Memᴰ.tail m))))
+of_list check m = without_7 1 (Memᴰ.tail (Memᴰ.tail (Memᴰ.tail (Memᴰ.tail m))))
 
-same_number : {v : Verdict} {check place n p : ℕ} → v ≡ Refused check place → v ≡ Refused n p → check ≡ n
-same_number e f = cc
+same_check : {v : Verdict} {check : Fault} {place : ℕ} {n : Fault} {p : ℕ} → v ≡ refused check place → v ≡ refused n p → check ≡ n
+same_check e f = same_fault (sym e ∙ f)
 
-never_passed : {v : Verdict} {check place : ℕ} → v ≡ Refused check place → v ≡ Passed → ⊥
+never_passed : {v : Verdict} {check : Fault} {place : ℕ} → v ≡ refused check place → v ≡ passed → ⊥
 never_passed e f = let z : ◌≡◌ {A = ℕ} 0 1 = cc in omega arith
 
 module _ (one other : ℕ) (row : List ℕ) (C : Clear list_checks (list_in row)) where
-  new_numbers : {check place : ℕ} → first_refusal (new_checks one other) row ≡ Refused check place → WhenProposed check
+  new_numbers : {check : Fault} {place : ℕ} → first_refusal (new_checks one other) row ≡ refused check place → WhenProposed check
   new_numbers {check} {place} e = go (first_refusal (cable_checks one other) (list_in row)) refl
     where
       room : Clear (cable_checks one other) (list_in row) → Dec (present row + 2 < length row) → WhenProposed check
       room f (yes h) = absurd (never_passed e (new_passed one other row f h))
-      room f (no h) = inr (same_number e (no_room one other row f (omega arith)))
+      room f (no h) = inr (same_check e (no_room one other row f (omega arith)))
 
       go : (v : Verdict) → first_refusal (cable_checks one other) (list_in row) ≡ v → WhenProposed check
-      go Passed f = room f (dec_lt (present row + 2) (length row))
-      go (Refused n p) f =
-          let q = same_number e (cable_refused one other row n p f) in
+      go (Ok u) f = room f (dec_lt (present row + 2) (length row))
+      go (Err r) f =
+          let q = same_check e (cable_refused one other row r.fault r.place f) in
           let b = among_5_6_8 (list_in row) C one other f in
-          inl (subst (Numbered 8) (sym q) (of_list b))
+          inl (subst (λ (c : Fault). Numbered 8 (number_of c)) (sym q) (of_list r.fault b))
 
 module _ (row : List ℕ) where
-  row_numbers : {check place : ℕ} → first_refusal row_checks row ≡ Refused check place → Numbered 8 check
+  row_numbers : {check : Fault} {place : ℕ} → first_refusal row_checks row ≡ refused check place → Numbered 8 (number_of check)
   row_numbers e = list_number (list_in row) (sym (row_verdict row) ∙ e)
 
-  passed : Clear row_checks row → Clear list_checks (list_in row)
-  passed f = sym (row_verdict row) ∙ f
+  list_passes : Clear row_checks row → Clear list_checks (list_in row)
+  list_passes f = sym (row_verdict row) ∙ f
 
-  pub propose_refusals : (one other : ℕ) {check place : ℕ} → first_refusal (propose_checks one other) row ≡ Refused check place → WhenProposed check
+  pub propose_refusals : (one other : ℕ) {check : Fault} {place : ℕ} → first_refusal (propose_checks one other) row ≡ refused check place → WhenProposed check
   unfolding propose_checks
   propose_refusals one other {check} e = go (first_refusal row_checks row) refl
     where
       go : (v : Verdict) → first_refusal row_checks row ≡ v → WhenProposed check
-      go Passed f = new_numbers one other row (passed f) (sym (rest_decides row row_checks (new_checks one other) f) ∙ e)
-      go (Refused n p) f =
-          let q = same_number e (refused_before row row_checks (new_checks one other) n p f) in
-          inl (subst (Numbered 8) (sym q) (row_numbers f))
+      go (Ok u) f = new_numbers one other row (list_passes f) (sym (rest_decides row row_checks (new_checks one other) f) ∙ e)
+      go (Err r) f =
+          let q = same_check e (refused_before row row_checks (new_checks one other) r.fault r.place f) in
+          inl (subst (λ (c : Fault). Numbered 8 (number_of c)) (sym q) (row_numbers f))
 
-  pub commit_refusals : (p : Proposal) {check place : ℕ} → first_refusal (commit_checks p) row ≡ Refused check place → WhenCommitted check
+  pub commit_refusals : (p : Proposal) {check : Fault} {place : ℕ} → first_refusal (commit_checks p) row ≡ refused check place → WhenCommitted check
   commit_refusals p {check} {place} e = go (first_refusal row_checks row) refl
     where
       version : Clear list_checks (list_in row) → Dec (p.version ≡ present row) → WhenCommitted check
       version C (yes h) = inl (new_numbers p.one p.other row C (sym (present_decides p row C h) ∙ e))
-      version C (no h) = inr (same_number e (stale_refused p row C h))
+      version C (no h) = inr (same_check e (stale_refused p row C h))
 
       go : (v : Verdict) → first_refusal row_checks row ≡ v → WhenCommitted check
-      go Passed f = version (passed f) (ℕ_discrete p.version (present row))
-      go (Refused n q) f =
-          let k = same_number e (row_refused p row n q f) in
-          inl (inl (subst (Numbered 8) (sym k) (row_numbers f)))
+      go (Ok u) f = version (list_passes f) (ℕ_discrete p.version (present row))
+      go (Err r) f =
+          let k = same_check e (row_refused p row r.fault r.place f) in
+          inl (inl (subst (λ (c : Fault). Numbered 8 (number_of c)) (sym k) (row_numbers f)))
 
 -- in a row of 2n + 2 words there is room for every cable that passes its checks, so that 16 never comes
 pub always_room : (one other : ℕ) (row : List ℕ) → Clear list_checks (list_in row) → Clear (cable_checks one other) (list_in row)

@@ -1,5 +1,6 @@
 -- The theorem over runs of operations: 'that list followed by the cables of the successful lays, in their sequence', which passes checks 1
 -- to 8 again. Assumes nothing.
+use Rattle.std.specs.Prelude.{Ok, Err}
 use Prim.Native.Nat.{ℕ, suc, ◌+◌, ◌<◌}
 use native.Mathlib.Omega.{arith}
 use mathlib.Core.Path.{◌≡◌, refl, sym, ap, ◌∙◌}
@@ -7,10 +8,9 @@ use mathlib.Core.List.{List, [], ◌∷◌, ◌++◌, map}
 use lib.ListN.{length, get_or, set, take, drop, length-set}
 use lib.Seq.{take-set-lt, take-suc-set, set-append_left, get_or-set_same, drop-set-lt, length-take-le}
 use Rattle.words.specs.Words.{cables_of, cable_word}
-use Rattle.checks.specs.declared.Verdict.{Verdict}
-use Rattle.checks.specs.declared.Verdict.TheVariants.{Passed, Refused}
 use Rattle.station.specs.Station.{cable_of, station_of}
-use Rattle.checks.specs.Checks.{Clear, first_refusal}
+use Rattle.checks.specs.declared.Fault.TheVariants as faults
+use Rattle.checks.specs.Checks.{Clear, first_refusal, passed, Verdict, refused}
 use Rattle.station.specs.Checks.{list_checks}
 use Rattle.editor.specs.declared.Proposal.{Proposal}
 use Rattle.editor.specs.Rows.{present, list_in, raised_by, followed_by, longer}
@@ -92,7 +92,7 @@ module _ (p : Proposal) (operations : List Operation) (row : List ℕ) (F : Fit 
         length_due row F.passed,
       )
 
-  grown_laid : (effect (Commit p) row).verdict ≡ Passed → (effect (Commit p) row).row ≡ stored p row → Grown (Commit p ∷ operations) row
+  grown_laid : (effect (Commit p) row).verdict ≡ passed → (effect (Commit p) row).row ≡ stored p row → Grown (Commit p ∷ operations) row
   unfolding run laid laid_by words
   grown_laid passed same = record {
     list = rw (same, passed) longer_list;
@@ -104,12 +104,12 @@ module _ (p : Proposal) (operations : List Operation) (row : List ℕ) (F : Fit 
 grown_commit : (p : Proposal) (operations : List Operation) (row : List ℕ) → Clear list_checks (list_in row) → ((r : List ℕ) → Clear list_checks (list_in r) → Grown operations r)
     → (verdict : Verdict) → first_refusal (commit_checks p) row ≡ verdict → Grown (Commit p ∷ operations) row
 unfolding laid_by
-grown_commit p operations row C rest Passed e =
+grown_commit p operations row C rest (Ok u) e =
     let F = commit_fits p row e in
     let f = commit_stored p row e in
     grown_laid p operations row F (rest (stored p row) (rw (list_stored p row F.passed F.room) F.passes)) (ap (λ (x : Effect). x.verdict) f) (ap (λ (x : Effect). x.row) f)
-grown_commit p operations row C rest (Refused check place) e =
-    let f = commit_refused p row check place e in
+grown_commit p operations row C rest (Err r) e =
+    let f = commit_refused p row r.fault r.place e in
     grown_kept (Commit p) operations row (ap (λ (x : Effect). x.row) f) (ap (λ (x : Effect). laid_by (Commit p) x.verdict) f) (rest row C)
 
 -- 'From a row whose list passes checks 1 to 8, with nothing else writing to it, any run of tries and lays leaves that list followed by the
@@ -145,12 +145,12 @@ module _ (operations : List Operation) (row : List ℕ) (C : Clear list_checks (
       )
 
   -- so that a slip of a version gone by gets 15 ever after
-  pub stale_for_good : (p : Proposal) → p.version < present row → first_refusal (commit_checks p) (run operations row) ≡ Refused 15 (present (run operations row))
+  pub stale_for_good : (p : Proposal) → p.version < present row → first_refusal (commit_checks p) (run operations row) ≡ refused faults.StaleProposal (present (run operations row))
   stale_for_good p h = stale_refused p (run operations row) (grown operations row C).passes (λ e. omega (arith, present_grown))
 
 -- as do all slips of the version of one that was laid
-pub laid_once : (p q : Proposal) (operations : List Operation) (row : List ℕ) → first_refusal (commit_checks p) row ≡ Passed → q.version ≡ p.version
-    → first_refusal (commit_checks q) (run operations (stored p row)) ≡ Refused 15 (present (run operations (stored p row)))
+pub laid_once : (p q : Proposal) (operations : List Operation) (row : List ℕ) → first_refusal (commit_checks p) row ≡ passed → q.version ≡ p.version
+    → first_refusal (commit_checks q) (run operations (stored p row)) ≡ refused faults.StaleProposal (present (run operations (stored p row)))
 laid_once p q operations row e same =
     let F = commit_fits p row e in
     stale_for_good operations (stored p row) (rw (list_stored p row F.passed F.room) F.passes) q

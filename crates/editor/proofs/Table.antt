@@ -1,11 +1,12 @@
 -- Worked examples of request 2026-07, which names none, as the definitions give them: a list grown in a row of four words and in one of
 -- five, and each refusal with its place. Assumes nothing.
+use Rattle.checks.specs.Checks.{passed, refused}
+use Rattle.std.specs.Prelude.{Ok}
+use Rattle.checks.specs.declared.Fault.TheVariants as faults
 use Prim.Native.Nat.{ℕ}
 use mathlib.Core.Path.{◌≡◌, refl}
 use mathlib.Core.List.{List, [], ◌∷◌}
-use Rattle.checks.specs.declared.Verdict.TheVariants.{Passed, Refused}
 use Rattle.editor.specs.declared.Proposal.{Proposal}
-use Rattle.editor.specs.declared.Proposed.TheVariants as answer
 use Rattle.editor.specs.Operations.{Operation, Propose, Commit, effect, proposed}
 use Rattle.editor.specs.Runs.{run, laid}
 use Rattle.editor.proofs.Computing.{editor_computing}
@@ -39,37 +40,37 @@ operations =
     ∷ []
 
 record Table : Type 0 where
-  tried : proposed 0 1 row0 ≡ answer.Valid (proposal 0 1 0)
-  laid_first : effect (Commit (proposal 0 1 0)) row0 ≡ record { verdict = Passed; row = row1 }
+  tried : proposed 0 1 row0 ≡ Ok (proposal 0 1 0)
+  laid_first : effect (Commit (proposal 0 1 0)) row0 ≡ record { verdict = passed; row = row1 }
   -- 2026-12: a repeated cable is tried and laid as any other, either way round
-  repeated : proposed 0 1 row1 ≡ answer.Valid (proposal 0 1 1)
-  turned_round : effect (Commit (proposal 1 0 1)) row1 ≡ record { verdict = Passed; row = 0x10030002 ∷ 0x20000002 ∷ 0x30000001 ∷ 0x30001000 ∷ [] }
-  tried_second : proposed 1 2 row1 ≡ answer.Valid (proposal 1 2 1)
-  laid_second : effect (Commit (proposal 1 2 1)) row1 ≡ record { verdict = Passed; row = row2 }
-  laid_again : effect (Commit (proposal 0 1 0)) row2 ≡ record { verdict = Refused 15 2; row = row2 }
-  no_room : proposed 0 2 row2 ≡ answer.Refused 16 4
-  no_room_to_lay : effect (Commit (proposal 0 2 2)) row2 ≡ record { verdict = Refused 16 4; row = row2 }
+  repeated : proposed 0 1 row1 ≡ Ok (proposal 0 1 1)
+  turned_round : effect (Commit (proposal 1 0 1)) row1 ≡ record { verdict = passed; row = 0x10030002 ∷ 0x20000002 ∷ 0x30000001 ∷ 0x30001000 ∷ [] }
+  tried_second : proposed 1 2 row1 ≡ Ok (proposal 1 2 1)
+  laid_second : effect (Commit (proposal 1 2 1)) row1 ≡ record { verdict = passed; row = row2 }
+  laid_again : effect (Commit (proposal 0 1 0)) row2 ≡ record { verdict = refused faults.StaleProposal 2; row = row2 }
+  no_room : proposed 0 2 row2 ≡ refused faults.RowFull 4
+  no_room_to_lay : effect (Commit (proposal 0 2 2)) row2 ≡ record { verdict = refused faults.RowFull 4; row = row2 }
   -- in a row of five words the run leaves the triangle
   triangle : run operations (0x10030000 ∷ 0x20000002 ∷ 0 ∷ 0 ∷ 0 ∷ []) ≡ 0x10030003 ∷ 0x20000002 ∷ 0x30000001 ∷ 0x30001002 ∷ 0x30000002 ∷ []
   cables : laid operations (0x10030000 ∷ 0x20000002 ∷ 0 ∷ 0 ∷ 0 ∷ []) ≡ 0x30000001 ∷ 0x30001002 ∷ 0x30000002 ∷ []
   -- a word behind the fifth stays
   behind : run operations (0x10030000 ∷ 0x20000002 ∷ 0 ∷ 0 ∷ 0 ∷ 9 ∷ []) ≡ 0x10030003 ∷ 0x20000002 ∷ 0x30000001 ∷ 0x30001002 ∷ 0x30000002 ∷ 9 ∷ []
-  loop : proposed 0 0 row1 ≡ answer.Refused 6 3
-  outside : proposed 0 3 row1 ≡ answer.Refused 5 3
-  large : proposed 0 4096 row1 ≡ answer.Refused 5 3
+  loop : proposed 0 0 row1 ≡ refused faults.SelfLoop 3
+  outside : proposed 0 3 row1 ≡ refused faults.PartOutside 3
+  large : proposed 0 4096 row1 ≡ refused faults.PartOutside 3
   -- a number of which the field would hold another cable's
-  large_first : proposed 4097 2 row1 ≡ answer.Refused 5 3
-  crowded : proposed 5 0 star ≡ answer.Refused 8 0
-  repeat_crowded : proposed 1 0 star ≡ answer.Refused 8 0
-  uncrowded : proposed 1 5 star ≡ answer.Valid (proposal 1 5 4)
+  large_first : proposed 4097 2 row1 ≡ refused faults.PartOutside 3
+  crowded : proposed 5 0 star ≡ refused faults.CrowdedPart 0
+  repeat_crowded : proposed 1 0 star ≡ refused faults.CrowdedPart 0
+  uncrowded : proposed 1 5 star ≡ Ok (proposal 1 5 4)
   -- 5 to 8 before 16, and 15 before all of them
-  six_before_sixteen : proposed 1 1 row2 ≡ answer.Refused 6 4
-  fifteen_before_five : effect (Commit (proposal 0 4096 1)) row2 ≡ record { verdict = Refused 15 2; row = row2 }
+  six_before_sixteen : proposed 1 1 row2 ≡ refused faults.SelfLoop 4
+  fifteen_before_five : effect (Commit (proposal 0 4096 1)) row2 ≡ record { verdict = refused faults.StaleProposal 2; row = row2 }
   -- 'a row too short fails check 1 or 3'
-  no_words : proposed 0 1 [] ≡ answer.Refused 1 0
-  one_word : effect (Commit (proposal 0 1 0)) (0x10030000 ∷ []) ≡ record { verdict = Refused 1 1; row = 0x10030000 ∷ [] }
-  too_short : proposed 0 1 (0x10030001 ∷ 0x20000002 ∷ []) ≡ answer.Refused 3 3
-  refused_list : proposed 0 1 (0x10030000 ∷ 0x20000003 ∷ 0 ∷ []) ≡ answer.Refused 5 1
+  no_words : proposed 0 1 [] ≡ refused faults.TooFewWords 0
+  one_word : effect (Commit (proposal 0 1 0)) (0x10030000 ∷ []) ≡ record { verdict = refused faults.TooFewWords 1; row = 0x10030000 ∷ [] }
+  too_short : proposed 0 1 (0x10030001 ∷ 0x20000002 ∷ []) ≡ refused faults.WrongLength 3
+  refused_list : proposed 0 1 (0x10030000 ∷ 0x20000003 ∷ 0 ∷ []) ≡ refused faults.PartOutside 1
 
 table : Table
 unfolding editor_computing

@@ -1,13 +1,10 @@
 -- Request 2026-07: what an operation on a row answers, and the row that it leaves. The contracts of both calls cite these definitions.
 -- Assumes nothing.
-use Rattle.std.specs.Prelude.{ℕ, ◌+◌, List, get_or, set}
+use Rattle.std.specs.Prelude.{ℕ, ◌+◌, List, get_or, set, Result, Ok, Err}
 use Rattle.words.specs.Words.{cable_word}
-use Rattle.checks.specs.declared.Verdict.{Verdict}
-use Rattle.checks.specs.declared.Verdict.TheVariants.{Passed, Refused}
-use Rattle.checks.specs.Checks.{Check, first_refusal}
+use Rattle.checks.specs.declared.Refusal.{Refusal}
+use Rattle.checks.specs.Checks.{Check, first_refusal, Verdict}
 use Rattle.editor.specs.declared.Proposal.{Proposal}
-use Rattle.editor.specs.declared.Proposed.{Proposed}
-use Rattle.editor.specs.declared.Proposed.TheVariants as answer
 use Rattle.editor.specs.Rows.{present, raised_by}
 use Rattle.editor.specs.Checks.{propose_checks, commit_checks}
 
@@ -28,8 +25,8 @@ stored p row = set (set row (present row + 2) (cable_word p.one p.other)) 0 (rai
 -- the row behind a verdict: 'Trying a cable changes nothing', and neither does a refusal
 unfoldable pub leaves : Operation → Verdict → List ℕ → List ℕ
 leaves (Propose one other) verdict row = row
-leaves (Commit proposal) Passed row = stored proposal row
-leaves (Commit proposal) (Refused check place) row = row
+leaves (Commit proposal) (Ok u) row = stored proposal row
+leaves (Commit proposal) (Err r) row = row
 
 -- what one operation does: what its checks say, and the row that it leaves
 pub record Effect : Type 0 where
@@ -45,11 +42,14 @@ effect operation row =
 unfoldable pub slip : ℕ → ℕ → List ℕ → Proposal
 slip one other row = record { one = one; other = other; version = present row }
 
+-- trying 'answers with a slip .. or with the refusal'
+abbrev pub Proposed : Type 0
+Proposed = Result Proposal Refusal
+
 -- the answer behind a verdict
 abbrev pub answered : Verdict → Proposal → Proposed
-answered Passed proposal = answer.Valid proposal
-answered (Refused check place) proposal = answer.Refused check place
+answered (Ok u) proposal = Ok proposal
+answered (Err r) proposal = Err r
 
--- trying 'answers with a slip .. or with the refusal'
 unfoldable pub proposed : ℕ → ℕ → List ℕ → Proposed
 proposed one other row = answered (effect (Propose one other) row).verdict (slip one other row)

@@ -1,9 +1,7 @@
 -- Request 2026-07: 'any run of tries and lays', and what it leaves. Assumes nothing.
-use Rattle.std.specs.Prelude.{ℕ, ◌≡◌, List, [], ◌∷◌, ◌++◌, length, drop}
+use Rattle.std.specs.Prelude.{ℕ, ◌≡◌, List, [], ◌∷◌, ◌++◌, length, drop, Ok, Err}
 use Rattle.words.specs.Words.{cable_word}
-use Rattle.checks.specs.declared.Verdict.{Verdict}
-use Rattle.checks.specs.declared.Verdict.TheVariants.{Passed, Refused}
-use Rattle.checks.specs.Checks.{Clear}
+use Rattle.checks.specs.Checks.{Clear, Verdict}
 use Rattle.station.specs.Checks.{list_checks}
 use Rattle.editor.specs.Rows.{list_in, followed_by}
 use Rattle.editor.specs.Operations.{Operation, Propose, Commit, effect}
@@ -16,8 +14,8 @@ run (operation ∷ operations) row = run operations (effect operation row).row
 -- the cable's word of a successful lay
 unfoldable pub laid_by : Operation → Verdict → List ℕ
 laid_by (Propose one other) verdict = []
-laid_by (Commit p) Passed = cable_word p.one p.other ∷ []
-laid_by (Commit p) (Refused check place) = []
+laid_by (Commit p) (Ok u) = cable_word p.one p.other ∷ []
+laid_by (Commit p) (Err r) = []
 
 -- 'the cables of the successful lays, in their sequence'
 unfoldable pub laid : List Operation → List ℕ → List ℕ

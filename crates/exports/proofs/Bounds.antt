@@ -1,24 +1,23 @@
 -- Bounds of an answer: a refusal's number is 1 to 14, but never 7; 12, 13 and 14 come where the check of the discount, of the spacing and
 -- of the drawing as it is spaced applies, and 11 only where the output has fewer than `most_words_for` words, which no sheet exceeds. Assumes
 -- nothing.
+use Rattle.checks.specs.declared.Fault.{Fault}
+use Rattle.std.specs.Prelude.{Option, Some, None, Ok, Err}
 use Prim.Native.Nat.{ℕ, ◌<◌, ◌≤◌}
-use mathlib.Core.Path.{◌≡◌, refl, sym, ◌∙◌, subst}
+use mathlib.Core.Path.{◌≡◌, refl, sym, ap, ◌∙◌, subst}
 use mathlib.Core.Bool.{Bool, true, false, cond}
 use mathlib.Core.List.{List, ◌++◌, map, Memᴰ}
 use native.Mathlib.Omega.{arith}
 use lib.ListN.{length}
 use lib.Dec.{ltb}
 use borrow.Author.Tests.{ltb-true, ltb-false}
-use Rattle.lists.specs.declared.Found.{Found}
-use Rattle.lists.specs.declared.Found.TheVariants.{At, Nothing}
 use Rattle.lists.specs.Select.{up_from}
 use Rattle.prices.specs.Discounts.{check12}
 use Rattle.station.specs.Station.{station_of}
 use Rattle.station.proofs.Numbers.{Numbered, without_7}
-use Rattle.checks.specs.declared.Verdict.{Verdict}
-use Rattle.checks.specs.declared.Verdict.TheVariants.{Passed, Refused}
-use Rattle.checks.specs.Checks.{Check, first_refusal, Clear}
-use Rattle.checks.proofs.FirstRefusal.{refused_number}
+use Rattle.checks.specs.declared.Fault.TheVariants as faults
+use Rattle.checks.specs.Checks.{Check, first_refusal, Clear, Verdict, refused, number_of}
+use Rattle.checks.proofs.FirstRefusal.{refused_number, same_fault, same_place}
 use Rattle.order.specs.Checks.{all_checks}
 use Rattle.order.proofs.Computing.{order_computing}
 use Rattle.drawing.specs.Drawing.{Drawing, crossings}
@@ -34,12 +33,12 @@ use Rattle.hookup.proofs.Demand3.{sheet_of, words_most}
 
 -- Checks 1 to 10
 
-numbered : map (λ (c : Check). c.number) all_checks ≡ up_from 1 6 ++ up_from 8 3
+numbered : map (λ (c : Check). number_of c.fault) all_checks ≡ up_from 1 6 ++ up_from 8 3
 unfolding order_computing
 numbered = refl
 
-verdict_between : (list : List ℕ) {check place : ℕ} → first_refusal all_checks list ≡ Refused check place → Numbered 10 check
-verdict_between list {check} e = without_7 3 (subst (Memᴰ check) numbered (refused_number list all_checks e))
+verdict_between : (list : List ℕ) {check : Fault} {place : ℕ} → first_refusal all_checks list ≡ refused check place → Numbered 10 (number_of check)
+verdict_between list {check} e = without_7 3 (subst (Memᴰ (number_of check)) numbered (refused_number list all_checks e))
 
 -- All checks
 
@@ -50,18 +49,18 @@ pub record Refusal (options : Options) (list : List ℕ) (room check place : ℕ
   -- 2026-12: 'check 7 no longer occurs'
   pub not_7 : check ≡ 7 → ⊥
   pub eleven : check ≡ 11 → room < most_words_for options.discount
-  pub twelve : check ≡ 12 → check12 options.discount ≡ At place
-  pub thirteen : check ≡ 13 → check13 options.spacing ≡ At place
-  pub fourteen : check ≡ 14 → Clear all_checks list × (check14 (spaced options.spacing (drawing (station_of list))) ≡ At place)
+  pub twelve : check ≡ 12 → check12 options.discount ≡ Some place
+  pub thirteen : check ≡ 13 → check13 options.spacing ≡ Some place
+  pub fourteen : check ≡ 14 → Clear all_checks list × (check14 (spaced options.spacing (drawing (station_of list))) ≡ Some place)
 
 -- a sheet fits the output, and `most_words_for`
 abbrev Bounded : Options → List ℕ → ℕ → Outcome → Type 0
 Bounded options list room (written words x) = (length words ≤ room) × (length words ≤ most_words_for options.discount)
-Bounded options list room (sent_back check place) = Refusal options list room check place
+Bounded options list room (sent_back check place) = Refusal options list room (number_of check) place
 
 module _ (options : Options) (list : List ℕ) (room : ℕ) where
   -- by the first check that applies: 12, 13, one of 1 to 10, or 14
-  refused_bounded : {check place : ℕ} → first_refusal (call_checks options) list ≡ Refused check place → Refusal options list room check place
+  refused_bounded : {check : Fault} {place : ℕ} → first_refusal (call_checks options) list ≡ refused check place → Refusal options list room (number_of check) place
   refused_bounded {check} {place} e = of_discount (check12 options.discount) refl
     where
       d : Drawing
@@ -69,8 +68,8 @@ module _ (options : Options) (list : List ℕ) (room : ℕ) where
 
       -- by what its number tells, where that is 12, 13 or 14
       beyond_11 :
-          11 < check → check ≤ 14 → (check ≡ 12 → check12 options.discount ≡ At place) → (check ≡ 13 → check13 options.spacing ≡ At place)
-          → (check ≡ 14 → Clear all_checks list × (check14 d ≡ At place)) → Refusal options list room check place
+          11 < number_of check → number_of check ≤ 14 → (number_of check ≡ 12 → check12 options.discount ≡ Some place) → (number_of check ≡ 13 → check13 options.spacing ≡ Some place)
+          → (number_of check ≡ 14 → Clear all_checks list × (check14 d ≡ Some place)) → Refusal options list room (number_of check) place
       beyond_11 l m a b c =
           record {
             least = omega arith;
@@ -82,19 +81,19 @@ module _ (options : Options) (list : List ℕ) (room : ℕ) where
             fourteen = c;
           }
 
-      of_drawing : Clear (given_checks options) list → (f : Found) → check14 d ≡ f → Refusal options list room check place
-      of_drawing pass (At p) f =
+      of_drawing : Clear (given_checks options) list → (f : Option ℕ) → check14 d ≡ f → Refusal options list room (number_of check) place
+      of_drawing pass (Some p) f =
           let g = sym (refused_14 options list pass p f) ∙ e in
-          let c : 14 ≡ check = cc in
-          let q : p ≡ place = cc in
+          let c : 14 ≡ number_of check = ap number_of (same_fault g) in
+          let q : p ≡ place = same_place g in
           beyond_11 (omega arith) (omega arith) (λ h. absurd (omega arith)) (λ h. absurd (omega arith)) (λ h. (list_clear options list pass, cc))
-      of_drawing pass Nothing f = let g = sym (call_clear options list pass f) ∙ e in let z : ◌≡◌ {A = ℕ} 0 1 = cc in absurd (omega arith)
+      of_drawing pass None f = let g = sym (call_clear options list pass f) ∙ e in let z : ◌≡◌ {A = ℕ} 0 1 = cc in absurd (omega arith)
 
-      of_list : first_refusal (given_checks options) list ≡ first_refusal all_checks list → (v : Verdict) → first_refusal all_checks list ≡ v → Refusal options list room check place
-      of_list decided Passed f = of_drawing (decided ∙ f) (check14 d) refl
-      of_list decided (Refused n p) f =
-          let g = sym (given_refused options list n p (decided ∙ f)) ∙ e in
-          let c : n ≡ check = cc in
+      of_list : first_refusal (given_checks options) list ≡ first_refusal all_checks list → (v : Verdict) → first_refusal all_checks list ≡ v → Refusal options list room (number_of check) place
+      of_list decided (Ok u) f = of_drawing (decided ∙ f) (check14 d) refl
+      of_list decided (Err r) f =
+          let g = sym (given_refused options list r.fault r.place (decided ∙ f)) ∙ e in
+          let c : number_of r.fault ≡ number_of check = ap number_of (same_fault g) in
           let b = verdict_between list f in
           record {
             least = omega (arith, b.least);
@@ -106,21 +105,21 @@ module _ (options : Options) (list : List ℕ) (room : ℕ) where
             fourteen = λ h. absurd (omega (arith, b.most));
           }
 
-      of_spacing : check12 options.discount ≡ Nothing → (f : Found) → check13 options.spacing ≡ f → Refusal options list room check place
-      of_spacing none (At p) f =
-          let g = sym (given_refused options list 13 p (refused_13 options list none p f)) ∙ e in
-          let c : 13 ≡ check = cc in
-          let q : p ≡ place = cc in
+      of_spacing : check12 options.discount ≡ None → (f : Option ℕ) → check13 options.spacing ≡ f → Refusal options list room (number_of check) place
+      of_spacing none (Some p) f =
+          let g = sym (given_refused options list faults.WrongSpacing p (refused_13 options list none p f)) ∙ e in
+          let c : 13 ≡ number_of check = ap number_of (same_fault g) in
+          let q : p ≡ place = same_place g in
           beyond_11 (omega arith) (omega arith) (λ h. absurd (omega arith)) (λ h. cc) (λ h. absurd (omega arith))
-      of_spacing none Nothing f = of_list (list_decides options list none f) (first_refusal all_checks list) refl
+      of_spacing none None f = of_list (list_decides options list none f) (first_refusal all_checks list) refl
 
-      of_discount : (f : Found) → check12 options.discount ≡ f → Refusal options list room check place
-      of_discount (At p) f =
-          let g = sym (given_refused options list 12 p (refused_12 options list p f)) ∙ e in
-          let c : 12 ≡ check = cc in
-          let q : p ≡ place = cc in
+      of_discount : (f : Option ℕ) → check12 options.discount ≡ f → Refusal options list room (number_of check) place
+      of_discount (Some p) f =
+          let g = sym (given_refused options list faults.DiscountTooHigh p (refused_12 options list p f)) ∙ e in
+          let c : 12 ≡ number_of check = ap number_of (same_fault g) in
+          let q : p ≡ place = same_place g in
           beyond_11 (omega arith) (omega arith) (λ h. cc) (λ h. absurd (omega arith)) (λ h. absurd (omega arith))
-      of_discount Nothing f = of_spacing f (check13 options.spacing) refl
+      of_discount None f = of_spacing f (check13 options.spacing) refl
 
   -- the sheet of a list that passes them
   fitted_bounded : Clear (call_checks options) list → Bounded options list room (sheet_in options (drawing (station_of list)) room)
@@ -133,7 +132,7 @@ module _ (options : Options) (list : List ℕ) (room : ℕ) where
       most : length words ≤ most_words_for options.discount
       most = words_most options list pass
 
-      go : (b : Bool) → ltb room (length words) ≡ b → Bounded options list room (cond b (sent_back 11 (length words)) (written words (crossings (drawing (station_of list)))))
+      go : (b : Bool) → ltb room (length words) ≡ b → Bounded options list room (cond b (sent_back faults.OutputTooShort (length words)) (written words (crossings (drawing (station_of list)))))
       go true t =
           record {
             least = omega arith;
@@ -151,12 +150,12 @@ module _ (options : Options) (list : List ℕ) (room : ℕ) where
   outcome_bounded = go (first_refusal (call_checks options) list) refl
     where
       go : (v : Verdict) → first_refusal (call_checks options) list ≡ v → Bounded options list room (if_passed v (sheet_in options (drawing (station_of list)) room))
-      go Passed e = fitted_bounded e
-      go (Refused check place) e = refused_bounded e
+      go (Ok u) e = fitted_bounded e
+      go (Err r) e = refused_bounded e
 
   -- The laws
 
-  pub refusal_bounded : {check place : ℕ} → outcome options list room ≡ sent_back check place → Refusal options list room check place
+  pub refusal_bounded : {check : Fault} {place : ℕ} → outcome options list room ≡ sent_back check place → Refusal options list room (number_of check) place
   refusal_bounded e = subst (Bounded options list room) e outcome_bounded
 
   pub sheet_words_lem : {words : List ℕ} {x : ℕ} → outcome options list room ≡ written words x → (length words ≤ room) × (length words ≤ most_words_for options.discount)

@@ -1,5 +1,7 @@
 -- The two numbers that are lent to a call which writes a row and counts what it wrote, and which of them stays. Assumes nothing.
-use Rattle.std.specs.Prelude.{ℕ, zero, suc, ◌≡◌}
+use Rattle.std.specs.Prelude.{ℕ, ◌≡◌, Result}
+use Rattle.checks.specs.declared.Refusal.{Refusal}
+use Rattle.exports.specs.Told.{Told}
 
 -- how many elements are written, and the place of a refusal
 pub record Counted : Type 0 where
@@ -9,7 +11,6 @@ pub record Counted : Type 0 where
 abbrev pub counted : ℕ → ℕ → Counted
 counted count place = record { count = count; place = place }
 
--- the number that stays as it was: where the row is written the place, of a refusal the count
-abbrev pub KeptCounted : ℕ → Counted → Counted → Type 0
-KeptCounted zero before after = after.place ≡ before.place
-KeptCounted (suc c) before after = after.count ≡ before.count
+-- 0 where the row is written, and the count is stored; a refusal leaves the count as it was
+abbrev pub ToldCount : Result ℕ Refusal → Counted → Counted → ℕ → Type 0
+ToldCount answer numbers left result = Told (λ (count : ℕ). left.count ≡ count) (left.count ≡ numbers.count) answer numbers.place left.place result

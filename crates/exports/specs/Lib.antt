@@ -1,4 +1,5 @@
 -- What the exported calls give. Assumes nothing.
+pub mod Told
 pub mod Call
 pub mod Editing
 pub mod Counts

@@ -1,16 +1,11 @@
--- The C form of the call that holds a sheet against its list (2026-09): which answer a result and the lent number stand for. Assumes
--- nothing.
-use Rattle.std.specs.Prelude.{ℕ, zero, suc, ◌≡◌, List}
-use Rattle.checks.specs.declared.Verdict.{Verdict}
-use Rattle.checks.specs.declared.Verdict.TheVariants.{Passed, Refused}
+-- The C form of the call that holds a sheet against its list (2026-09): how its answer is told. Assumes nothing.
+use Rattle.std.specs.Prelude.{ℕ, List, ⊤}
+use Rattle.checks.specs.Checks.{Verdict}
 use Rattle.validation.specs.Outcome.{Validates}
+use Rattle.exports.specs.Told.{Told}
 
--- 0 is an accepted sheet, any other result a refusal with its place
-abbrev pub verdict_of : ℕ → ℕ → Verdict
-verdict_of zero place = Passed
-verdict_of (suc c) place = Refused (suc c) place
-
--- a call, with the place before and after, and its result; an accepted sheet leaves the place as it was
+-- a call, with the place before and after, and its result: 0 is an accepted sheet
 pub record Held (list sheet : List ℕ) (before after result : ℕ) : Type 0 where
-  pub does : Validates list sheet (verdict_of result after)
-  pub kept : result ≡ 0 → after ≡ before
+  pub verdict : Verdict
+  pub does : Validates list sheet verdict
+  pub told : Told (λ (u : ⊤). ⊤) ⊤ verdict before after result

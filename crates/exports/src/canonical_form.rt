@@ -3,7 +3,6 @@ ghost use Rattle.exports.specs.Counts.{counted};
 ghost use Rattle.exports.specs.CanonicalForm.{Settled};
 
 use crate::refuse;
-use canonical::Canonicalized;
 use canonicalizing::canonicalize;
 
 // `canonicalizing::canonicalize`: 0 with the count of words stored, or the check's number with its place stored.
@@ -18,13 +17,10 @@ pub extern "C" fn dovranis_canonicalize(
         (counted words.old place.old) (counted words.new place.new) result }
 {
     match canonicalize(list, canonical) {
-        Canonicalized::Written { words: written } => {
-            *words = written;
+        Ok(count) => {
+            *words = count;
             0
         }
-        Canonicalized::Refused {
-            check,
-            place: found,
-        } => refuse(check, found, place),
+        Err(refusal) => refuse(refusal, place),
     }
 }

@@ -1,9 +1,10 @@
 // The calls for programs that are not written in Rattle. include/dovranis.h says in words what the contracts here say.
 #![tactic(auto)]
 
+use checks::Refusal;
 use drafting::draw;
 use drawing::spacing::Spacing;
-use hookup::{Answer, Options};
+use hookup::{Options, Sheet};
 use words::limits;
 
 pub mod canonical_form;
@@ -14,7 +15,8 @@ pub mod signal_levels;
 
 ghost use Rattle.std.specs.Prelude.{◌≡◌};
 ghost use Rattle.hookup.specs.Options.{plain, quoted, spaced_by};
-ghost use Rattle.exports.specs.Call.{most_words, most_quoted_words, lent, Numbered, Told, Called};
+ghost use Rattle.checks.specs.Checks.{number_of};
+ghost use Rattle.exports.specs.Call.{most_words, most_quoted_words, lent, ToldSheet, Called};
 
 // An output of so many words is long enough for every sheet, and with a discount one of so many more.
 pub const MOST_WORDS: usize = limits::MOST_WORDS;
@@ -37,38 +39,36 @@ pub extern "C" fn dovranis_most_quoted_words() -> usize
 }
 
 // A refusal: its place is stored, its number is the result.
-fn refuse(check: u8, found: usize, place: &mut usize) -> u32
-    ensures { (result ≡ check) × (place.new ≡ found) }
+fn refuse(refusal: Refusal, place: &mut usize) -> u32
+    ensures { (result ≡ number_of refusal.fault) × (place.new ≡ refusal.place) }
 {
-    *place = found;
-    check as u32
+    *place = refusal.place;
+    u32::from(refusal.fault.number())
 }
 
 // An answer by a result and lent numbers: 0 for a sheet, with its words and crossings stored, and the check's number for a refusal, with
 // its place stored.
-fn tell(answer: Answer, words: &mut usize, crossings: &mut usize, place: &mut usize) -> u32
-    requires { Numbered answer }
-    ensures { Told answer
+fn tell(
+    answer: Result<Sheet, Refusal>,
+    words: &mut usize,
+    crossings: &mut usize,
+    place: &mut usize,
+) -> u32
+    ensures { ToldSheet answer
         (lent words.old crossings.old place.old)
         (lent words.new crossings.new place.new) result }
 {
     match answer {
-        Answer::Sheet {
-            words: written,
-            crossings: counted,
-        } => {
-            *words = written;
-            *crossings = counted;
+        Ok(sheet) => {
+            *words = sheet.words;
+            *crossings = sheet.crossings;
             0
         }
-        Answer::Refused {
-            check,
-            place: found,
-        } => refuse(check, found, place),
+        Err(refusal) => refuse(refusal, place),
     }
 }
 
-// `drafting::draw` with nothing given.
+// `drafting::draw` with nothing given. C has no optional parameters, so that there is a call for each of what may be given.
 #[unsafe(no_mangle)]
 pub extern "C" fn dovranis_draw(
     list: &[u32],

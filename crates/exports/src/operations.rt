@@ -2,9 +2,8 @@
 ghost use Rattle.exports.specs.Editing.{noted, Tried, Laid};
 
 use crate::refuse;
-use checks::Verdict;
 use editing::{commit, propose};
-use editor::{Proposal, Proposed};
+use editor::Proposal;
 
 // `editing::propose`: 0 with the version stored, which makes the proposal with the two parts, or the check's number with its place stored.
 #[unsafe(no_mangle)]
@@ -19,14 +18,11 @@ pub extern "C" fn dovranis_propose(
         (noted version.old place.old) (noted version.new place.new) result }
 {
     match propose(row, one, other) {
-        Proposed::Valid(proposal) => {
+        Ok(proposal) => {
             *version = proposal.version;
             0
         }
-        Proposed::Refused {
-            check,
-            place: found,
-        } => refuse(check, found, place),
+        Err(refusal) => refuse(refusal, place),
     }
 }
 
@@ -36,10 +32,7 @@ pub extern "C" fn dovranis_commit(row: &mut [u32], proposal: Proposal, place: &m
     ensures { Laid proposal row.old row.new place.old place.new result }
 {
     match commit(row, proposal) {
-        Verdict::Passed => 0,
-        Verdict::Refused {
-            check,
-            place: found,
-        } => refuse(check, found, place),
+        Ok(()) => 0,
+        Err(refusal) => refuse(refusal, place),
     }
 }

@@ -2,9 +2,7 @@
 ghost use Rattle.exports.specs.Pointing.{Pointed, Chosen, Enclosed};
 
 use crate::refuse;
-use checks::Verdict;
 use locating::locate;
-use location::{Bounded, Selected};
 use selecting::{cable_bounds, select_cable};
 
 // `locating::locate`: 0 with an answer stored for each mark, or the check's number with its place stored.
@@ -20,11 +18,8 @@ pub extern "C" fn dovranis_locate(
         place.old place.new result }
 {
     match locate(list, sheet, marks, hits) {
-        Verdict::Passed => 0,
-        Verdict::Refused {
-            check,
-            place: found,
-        } => refuse(check, found, place),
+        Ok(()) => 0,
+        Err(refusal) => refuse(refusal, place),
     }
 }
 
@@ -43,21 +38,15 @@ pub extern "C" fn dovranis_cable_words(
         place.old place.new result }
 {
     match select_cable(list, sheet, line) {
-        Selected::Words {
-            start: from,
-            count: words,
-        } => {
-            *start = from;
-            *count = words;
+        Ok(section) => {
+            *start = section.start;
+            *count = section.count;
             0
         }
-        Selected::Refused {
-            check,
-            place: found,
-        } => {
+        Err(refusal) => {
             *start = 0;
             *count = 0;
-            refuse(check, found, place)
+            refuse(refusal, place)
         }
     }
 }
@@ -75,13 +64,10 @@ pub extern "C" fn dovranis_cable_bounds(
         place.old place.new result }
 {
     match cable_bounds(list, sheet, line) {
-        Bounded::Box(found) => {
+        Ok(found) => {
             *bounds = [found.left, found.bottom, found.right, found.top];
             0
         }
-        Bounded::Refused {
-            check,
-            place: found,
-        } => refuse(check, found, place),
+        Err(refusal) => refuse(refusal, place),
     }
 }

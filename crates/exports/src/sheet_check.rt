@@ -2,7 +2,6 @@
 ghost use Rattle.exports.specs.SheetCheck.{Held};
 
 use crate::refuse;
-use checks::Verdict;
 use validating::check_sheet;
 
 // `validating::check_sheet`: 0 for an accepted sheet, or the check's number with its place stored.
@@ -11,10 +10,7 @@ pub extern "C" fn dovranis_check_sheet(list: &[u32], sheet: &[u32], place: &mut 
     ensures { Held list.now sheet.now place.old place.new result }
 {
     match check_sheet(list, sheet) {
-        Verdict::Passed => 0,
-        Verdict::Refused {
-            check,
-            place: found,
-        } => refuse(check, found, place),
+        Ok(()) => 0,
+        Err(refusal) => refuse(refusal, place),
     }
 }

@@ -4,7 +4,6 @@ ghost use Rattle.exports.specs.SignalLevels.{Metered};
 
 use crate::refuse;
 use levelling::find_levels;
-use levels::Levelled;
 
 // `levelling::find_levels`: 0 with the count of floats stored, or the check's number with its place stored.
 #[unsafe(no_mangle)]
@@ -19,13 +18,10 @@ pub extern "C" fn dovranis_levels(
         (counted floats.old place.old) (counted floats.new place.new) result }
 {
     match find_levels(list, sorts, levels) {
-        Levelled::Written { floats: written } => {
-            *floats = written;
+        Ok(count) => {
+            *floats = count;
             0
         }
-        Levelled::Refused {
-            check,
-            place: found,
-        } => refuse(check, found, place),
+        Err(refusal) => refuse(refusal, place),
     }
 }

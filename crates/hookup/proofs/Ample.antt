@@ -1,14 +1,13 @@
 -- An output of `most_words_for` words suffices for every sheet: more of it changes no answer, so that check 11 never refuses there. Assumes
 -- nothing.
+use Rattle.std.specs.Prelude.{Ok, Err}
 use Prim.Native.Nat.{ℕ, ◌≤◌}
 use native.Mathlib.Omega.{arith}
 use mathlib.Core.Path.{◌≡◌, refl, sym, ◌∙◌}
 use mathlib.Core.List.{List}
 use lib.ListN.{length}
 use Rattle.station.specs.Station.{station_of}
-use Rattle.checks.specs.Checks.{first_refusal}
-use Rattle.checks.specs.declared.Verdict.{Verdict}
-use Rattle.checks.specs.declared.Verdict.TheVariants.{Passed, Refused}
+use Rattle.checks.specs.Checks.{first_refusal, Verdict}
 use Rattle.drawing.specs.Drawing.{Drawing, crossings}
 use Rattle.drawing.specs.Sheet.{quoted_words}
 use Rattle.hookup.specs.declared.Options.{Options}
@@ -34,7 +33,7 @@ module _ (options : Options) where
       go :
           (v : Verdict) → first_refusal (call_checks options) list ≡ v
           → if_passed v (sheet_in options (drawing (station_of list)) more) ≡ if_passed v (sheet_in options (drawing (station_of list)) room)
-      go Passed e =
+      go (Ok u) e =
           let s : length (sheet_of options list) ≤ most_words_for options.discount = words_most options list e in
           fitted_ample (drawing (station_of list)) more (omega arith) ∙ sym (fitted_ample (drawing (station_of list)) room (omega arith))
-      go (Refused check place) e = refl
+      go (Err r) e = refl

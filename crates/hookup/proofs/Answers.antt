@@ -1,19 +1,19 @@
 -- What makes an answer right: a refusal by a check, a sheet too long for the output, a sheet that is written. Assumes nothing.
+use Rattle.checks.specs.declared.Fault.{Fault}
+use Rattle.std.specs.Prelude.{Some, Ok}
 use Prim.Native.Nat.{ℕ, ◌<◌, ◌≤◌}
 use native.Mathlib.Omega.{arith}
 use mathlib.Core.Path.{◌≡◌, sym, ap, ap₂, ◌∙◌, subst, subst₂}
 use mathlib.Core.List.{List}
 use lib.ListN.{length}
-use Rattle.lists.specs.declared.Found.TheVariants.{At}
 use Rattle.lists.specs.Stores.{Stored}
 use Rattle.lists.proofs.Stores.{stored_as}
+use Rattle.checks.specs.declared.Fault.TheVariants as faults
 use Rattle.checks.proofs.Outcome.{verdict_refused, verdict_passed, fitted_short, fitted_whole, left_stored}
 use Rattle.station.specs.Station.{station_of}
-use Rattle.checks.specs.declared.Verdict.TheVariants as verdict
-use Rattle.checks.specs.Checks.{first_refusal, Clear}
+use Rattle.checks.specs.Checks.{first_refusal, Clear, refused}
 use Rattle.drawing.specs.Drawing.{crossings}
 use Rattle.drawing.specs.Spacing.{spaced, check14}
-use Rattle.hookup.specs.declared.Answer.TheVariants.{Sheet, Refused}
 use Rattle.hookup.specs.declared.Options.{Options}
 use Rattle.hookup.specs.Checks.{given_checks, call_checks}
 use Rattle.hookup.specs.Drawing.{drawing}
@@ -27,12 +27,12 @@ use Rattle.hookup.proofs.Demand3.{sheet_of, demand3, ordered, crossed}
 module _ (options : Options) (list : List ℕ) where
   -- Outcomes
 
-  pub refused_outcome : (room c p : ℕ) → first_refusal (call_checks options) list ≡ verdict.Refused c p → outcome options list room ≡ sent_back c p
+  pub refused_outcome : (room : ℕ) (c : Fault) (p : ℕ) → first_refusal (call_checks options) list ≡ refused c p → outcome options list room ≡ sent_back c p
   unfolding outcome
   refused_outcome room c p e = verdict_refused (sheet_in options (drawing (station_of list)) room) e
 
   module _ (pass : Clear (call_checks options) list) (room : ℕ) where
-    pub short_outcome : room < length (sheet_of options list) → outcome options list room ≡ sent_back 11 (length (sheet_of options list))
+    pub short_outcome : room < length (sheet_of options list) → outcome options list room ≡ sent_back faults.OutputTooShort (length (sheet_of options list))
     unfolding outcome sheet_in
     short_outcome h =
         verdict_passed (sheet_in options (drawing (station_of list)) room) pass ∙ fitted_short (sheet_of options list) (crossings (drawing (station_of list))) room h
@@ -44,31 +44,31 @@ module _ (options : Options) (list : List ℕ) where
 
   -- Answers
 
-  drew_refused : (before : List ℕ) (c p : ℕ) → first_refusal (call_checks options) list ≡ verdict.Refused c p → Drew options list before before (Refused c p)
+  drew_refused : (before : List ℕ) (c : Fault) (p : ℕ) → first_refusal (call_checks options) list ≡ refused c p → Drew options list before before (refused c p)
   drew_refused before c p e =
       let o = refused_outcome (length before) c p e in
       record { replies = sym (ap reply o); output = sym (ap (λ (z : Outcome). row_after z before) o); demands = tt }
 
   -- a refusal by what is tested before the drawing, and by 14
-  pub drew_sent_back : (before : List ℕ) (c p : ℕ) → first_refusal (given_checks options) list ≡ verdict.Refused c p → Drew options list before before (Refused c p)
+  pub drew_sent_back : (before : List ℕ) (c : Fault) (p : ℕ) → first_refusal (given_checks options) list ≡ refused c p → Drew options list before before (refused c p)
   drew_sent_back before c p e = drew_refused before c p (given_refused options list c p e)
 
   pub drew_too_large :
-      (before : List ℕ) (p : ℕ) → Clear (given_checks options) list → check14 (spaced options.spacing (drawing (station_of list))) ≡ At p
-      → Drew options list before before (Refused 14 p)
-  drew_too_large before p pass e = drew_refused before 14 p (refused_14 options list pass p e)
+      (before : List ℕ) (p : ℕ) → Clear (given_checks options) list → check14 (spaced options.spacing (drawing (station_of list))) ≡ Some p
+      → Drew options list before before (refused faults.NumberTooLarge p)
+  drew_too_large before p pass e = drew_refused before faults.NumberTooLarge p (refused_14 options list pass p e)
 
   pub drew_short :
       (before : List ℕ) (p : ℕ) → Clear (call_checks options) list → length before < p → p ≡ length (sheet_of options list)
-      → Drew options list before before (Refused 11 p)
+      → Drew options list before before (refused faults.OutputTooShort p)
   drew_short before p e h f =
       let o = short_outcome e (length before) (omega arith) in
-      record { replies = sym (ap reply (o ∙ ap (sent_back 11) (sym f))); output = sym (ap (λ (z : Outcome). row_after z before) o); demands = tt }
+      record { replies = sym (ap reply (o ∙ ap (sent_back faults.OutputTooShort) (sym f))); output = sym (ap (λ (z : Outcome). row_after z before) o); demands = tt }
 
   pub drew_sheet :
       (before after words : List ℕ) (n k : ℕ) → Clear (call_checks options) list → words ≡ sheet_of options list
       → length (sheet_of options list) ≤ length before → Stored before 0 words after n → k ≡ crossings (drawing (station_of list))
-      → Drew options list before after (Sheet n k)
+      → Drew options list before after (Ok (record { words = n; crossings = k }))
   drew_sheet before after words n k e f h S g =
       let o = drawn_outcome e (length before) h in
       let L = left_stored (crossings (drawing (station_of list))) h (stored_as f S) in

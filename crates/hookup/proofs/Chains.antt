@@ -1,6 +1,7 @@
 -- Check 14 on long chains and rings (2026-06, 2026-11, 2026-14): n parts, each joined to the next, and in a ring the last to the first.
 -- That those of 256 and 512 parts pass checks 1 to 6 is computed; 8 rests on the two cables of a part, 9 and 10 on paths along the chain,
 -- and 14 on the head of its drawing. Assumes nothing.
+use Rattle.std.specs.Prelude.{Some, None}
 use Prim.Native.Nat.{ℕ, zero, suc, ◌+◌, ◌-◌, ◌*◌, ◌<◌, ◌≤◌, max}
 use native.Mathlib.Omega.{arith}
 use native.Mathlib.Decide.{ℕ_discrete, dec_lt}
@@ -11,10 +12,9 @@ use mathlib.Core.List.{List, ◌∷◌}
 use lib.ListN.{length, get_or, length-map}
 use lib.Dec.{ltb, eqb}
 use borrow.Author.Tests.{lt-ltb, le-ltb, eqb-true, ne_eqb}
-use Rattle.lists.specs.declared.Found.TheVariants.{At, Nothing}
 use Rattle.lists.specs.Select.{tabulate, range, count, filter, one_if}
 use Rattle.lists.proofs.Bools.{or_e}
-use Rattle.lists.proofs.Seek.{First, None, seek_cases}
+use Rattle.lists.proofs.Seek.{First, NoneOf, seek_cases}
 use Rattle.lists.proofs.Tally.{count_places, count_either}
 use Rattle.lists.proofs.Select.{get_d_map, get_d_tabulate, length_tabulate}
 use Rattle.words.specs.Limits.{least_parts, most_parts, most_degree, most_field}
@@ -22,6 +22,7 @@ use Rattle.words.specs.Words.{ends, cable, cable_word, ends_word, list_head_word
 use Rattle.words.proofs.Words.{fields_apart, list_head_apart}
 use Rattle.prices.proofs.Discounts.{not_given}
 use Rattle.station.specs.Station.{Cable, Station, no_cable, cable_of, station_of, joins, degree}
+use Rattle.checks.specs.declared.Fault.TheVariants as faults
 use Rattle.checks.specs.Checks.{Clear}
 use Rattle.checks.proofs.FirstRefusal.{clear_more}
 use Rattle.station.specs.Checks.{check8, list_checks}
@@ -151,19 +152,19 @@ module _ (n m : ℕ) (S : Sized n m) (six : Clear (up_to 6) (laid n m)) where
         count_either (λ i. joins p (get_or st.cables i no_cable)) m p (before p (ℕ_discrete p 0)) (two_ends p),
       )
 
-  nothing_8 : check8 (laid n m) ≡ Nothing
+  nothing_8 : check8 (laid n m) ≡ None
   unfolding check8
   nothing_8 = go (seek_cases (λ p. ltb most_degree (degree st.cables p)) 0 st.parts)
     where
-      go : ((x : ℕ) × (check8 (laid n m) ≡ At x) × First (λ p. ltb most_degree (degree st.cables p)) 0 st.parts x)
-          ⊎ ((check8 (laid n m) ≡ Nothing) × None (λ p. ltb most_degree (degree st.cables p)) 0 st.parts)
-          → check8 (laid n m) ≡ Nothing
+      go : ((x : ℕ) × (check8 (laid n m) ≡ Some x) × First (λ p. ltb most_degree (degree st.cables p)) 0 st.parts x)
+          ⊎ ((check8 (laid n m) ≡ None) × NoneOf (λ p. ltb most_degree (degree st.cables p)) 0 st.parts)
+          → check8 (laid n m) ≡ None
       go (inl f) = absurd (false≢true (sym (le-ltb most_degree (degree st.cables f.0) (omega (arith, two_cables f.0))) ∙ f.2.passes))
       go (inr f) = f.0
 
   eight : Clear list_checks (laid n m)
   unfolding list_checks filter
-  eight = clear_more (laid n m) (up_to 6) (record { number = 8; finds = check8 }) six nothing_8
+  eight = clear_more (laid n m) (up_to 6) (record { fault = faults.CrowdedPart; finds = check8 }) six nothing_8
 
   no_row : (p : ℕ) → one_if (eqb (degree st.cables p) 4) ≡ 0
   no_row p = ap one_if (ne_eqb (degree st.cables p) 4 (λ e. omega (arith, two_cables p)))
@@ -188,7 +189,7 @@ module _ (n m : ℕ) (S : Sized n m) (six : Clear (up_to 6) (laid n m)) where
       let e : a + (b - a) ≡ b = omega arith in
       subst (λ (z : ℕ). Path st.cables P z a) e (along P a (b - a) (omega arith) (λ x l m. p x l (omega arith)))
 
-  nine : check9 st ≡ Nothing
+  nine : check9 st ≡ None
   nine =
       (check9_nothing st).1
       (λ p h. between (Part st.parts) 0 p (omega arith) (omega (arith, parts_are)) (λ x g l. omega (arith, parts_are)))
@@ -213,7 +214,7 @@ module _ (n m : ℕ) (S : Sized n m) (six : Clear (up_to 6) (laid n m)) where
       (subst (λ (e : ℕ). Path st.cables (Off n v) 0 p ⊎ Path st.cables (Off n v) e p) (sym analyser_is)
       (reaches v p (omega (arith, parts_are)) g)))
 
-  ten : check10 st ≡ Nothing
+  ten : check10 st ≡ None
   ten = (check10_nothing st).1 bipolar
 
   laid_passes : Clear all_checks (laid n m)
@@ -232,7 +233,7 @@ module _ (n m : ℕ) (S : Sized n m) (six : Clear (up_to 6) (laid n m)) where
 
   -- With column pitch 1 and no margin
 
-  module _ (pitch : ℕ) (good : check13 (spaced_by 1 pitch 0 plain).spacing ≡ Nothing) where
+  module _ (pitch : ℕ) (good : check13 (spaced_by 1 pitch 0 plain).spacing ≡ None) where
     abbrev options : Options
     options = spaced_by 1 pitch 0 plain
 
@@ -251,13 +252,13 @@ module _ (n m : ℕ) (S : Sized n m) (six : Clear (up_to 6) (laid n m)) where
     height_there = ap (λ (h : ℕ). 0 + h * pitch + 0) high ∙ omega arith
 
     -- 14 looks at the larger of the two
-    fourteen : check14 sheet ≡ cond (too_large (max (m + 1 - n) ((n - 1) * pitch))) (At (max (m + 1 - n) ((n - 1) * pitch))) Nothing
+    fourteen : check14 sheet ≡ cond (too_large (max (m + 1 - n) ((n - 1) * pitch))) (Some (max (m + 1 - n) ((n - 1) * pitch))) None
     fourteen =
         head_alone st orderable options.spacing (passed_13 options.spacing good)
-        ∙ ap₂ (λ (w h : ℕ). cond (too_large (max w h)) (At (max w h)) Nothing) width_there height_there
+        ∙ ap₂ (λ (w h : ℕ). cond (too_large (max w h)) (Some (max w h)) None) width_there height_there
 
-    too_high : (place room : ℕ) → check14 sheet ≡ At place → outcome options (laid n m) room ≡ sent_back 14 place
-    too_high place room e = refused_outcome options (laid n m) room 14 place (refused_14 options (laid n m) given place e)
+    too_high : (place room : ℕ) → check14 sheet ≡ Some place → outcome options (laid n m) room ≡ sent_back faults.NumberTooLarge place
+    too_high place room e = refused_outcome options (laid n m) room faults.NumberTooLarge place (refused_14 options (laid n m) given place e)
 
     words_are : length (sheet_of options (laid n m)) ≡ 4 * m + 4 - n
     words_are =
@@ -273,13 +274,13 @@ module _ (n m : ℕ) (S : Sized n m) (six : Clear (up_to 6) (laid n m)) where
           cables_are,
         )
 
-    fits : (room : ℕ) → check14 sheet ≡ Nothing → 4 * m + 4 - n ≤ room → outcome options (laid n m) room ≡ written (sheet_of options (laid n m)) (crossings (drawing st))
+    fits : (room : ℕ) → check14 sheet ≡ None → 4 * m + 4 - n ≤ room → outcome options (laid n m) room ≡ written (sheet_of options (laid n m)) (crossings (drawing st))
     fits room e h = drawn_outcome options (laid n m) (call_clear options (laid n m) given e) room (omega (arith, words_are))
 
-    short : (room : ℕ) → check14 sheet ≡ Nothing → room < 4 * m + 4 - n → outcome options (laid n m) room ≡ sent_back 11 (4 * m + 4 - n)
-    short room e h = short_outcome options (laid n m) (call_clear options (laid n m) given e) room (omega (arith, words_are)) ∙ ap (sent_back 11) words_are
+    short : (room : ℕ) → check14 sheet ≡ None → room < 4 * m + 4 - n → outcome options (laid n m) room ≡ sent_back faults.OutputTooShort (4 * m + 4 - n)
+    short room e h = short_outcome options (laid n m) (call_clear options (laid n m) given e) room (omega (arith, words_are)) ∙ ap (sent_back faults.OutputTooShort) words_are
 
-passes : (pitch : ℕ) → 0 < pitch → pitch ≤ most_pitch → check13 (spaced_by 1 pitch 0 plain).spacing ≡ Nothing
+passes : (pitch : ℕ) → 0 < pitch → pitch ≤ most_pitch → check13 (spaced_by 1 pitch 0 plain).spacing ≡ None
 passes pitch h g =
     spreads_pass (spaced_by 1 pitch 0 plain).spacing
     (record { column_some = omega arith; column_most = omega arith; row_some = h; row_most = g; margin_most = omega arith })
@@ -290,17 +291,17 @@ six_256 : Clear (up_to 6) (ring 256)
 unfolding station_computing
 six_256 = refl
 
-pub ring_64 : (room : ℕ) → outcome (spaced_by 1 64 0 plain) (ring 256) room ≡ sent_back 14 16320
+pub ring_64 : (room : ℕ) → outcome (spaced_by 1 64 0 plain) (ring 256) room ≡ sent_back faults.NumberTooLarge 16320
 ring_64 room = let good = passes 64 (omega arith) (omega arith) in too_high 256 256 (omega arith) six_256 64 good 16320 room (fourteen 256 256 (omega arith) six_256 64 good)
 
-pub ring_17 : (room : ℕ) → outcome (spaced_by 1 17 0 plain) (ring 256) room ≡ sent_back 14 4335
+pub ring_17 : (room : ℕ) → outcome (spaced_by 1 17 0 plain) (ring 256) room ≡ sent_back faults.NumberTooLarge 4335
 ring_17 room = let good = passes 17 (omega arith) (omega arith) in too_high 256 256 (omega arith) six_256 17 good 4335 room (fourteen 256 256 (omega arith) six_256 17 good)
 
 pub ring_16 :
     outcome (spaced_by 1 16 0 plain) (ring 256) 772 ≡ written (sheet_of (spaced_by 1 16 0 plain) (ring 256)) (crossings (drawing (station_of (ring 256))))
 ring_16 = let good = passes 16 (omega arith) (omega arith) in fits 256 256 (omega arith) six_256 16 good 772 (fourteen 256 256 (omega arith) six_256 16 good) (omega arith)
 
-pub ring_16_short : outcome (spaced_by 1 16 0 plain) (ring 256) 771 ≡ sent_back 11 772
+pub ring_16_short : outcome (spaced_by 1 16 0 plain) (ring 256) 771 ≡ sent_back faults.OutputTooShort 772
 ring_16_short = let good = passes 16 (omega arith) (omega arith) in short 256 256 (omega arith) six_256 16 good 771 (fourteen 256 256 (omega arith) six_256 16 good) (omega arith)
 
 -- One of 512 parts is 511 high, and 8 is the largest pitch that fits (2026-11)
@@ -309,14 +310,14 @@ six_512 : Clear (up_to 6) (ring 512)
 unfolding station_computing
 six_512 = refl
 
-pub ring_9 : (room : ℕ) → outcome (spaced_by 1 9 0 plain) (ring 512) room ≡ sent_back 14 4599
+pub ring_9 : (room : ℕ) → outcome (spaced_by 1 9 0 plain) (ring 512) room ≡ sent_back faults.NumberTooLarge 4599
 ring_9 room = let good = passes 9 (omega arith) (omega arith) in too_high 512 512 (omega arith) six_512 9 good 4599 room (fourteen 512 512 (omega arith) six_512 9 good)
 
 pub ring_8 :
     outcome (spaced_by 1 8 0 plain) (ring 512) 1540 ≡ written (sheet_of (spaced_by 1 8 0 plain) (ring 512)) (crossings (drawing (station_of (ring 512))))
 ring_8 = let good = passes 8 (omega arith) (omega arith) in fits 512 512 (omega arith) six_512 8 good 1540 (fourteen 512 512 (omega arith) six_512 8 good) (omega arith)
 
-pub ring_8_short : outcome (spaced_by 1 8 0 plain) (ring 512) 1539 ≡ sent_back 11 1540
+pub ring_8_short : outcome (spaced_by 1 8 0 plain) (ring 512) 1539 ≡ sent_back faults.OutputTooShort 1540
 ring_8_short = let good = passes 8 (omega arith) (omega arith) in short 512 512 (omega arith) six_512 8 good 1539 (fourteen 512 512 (omega arith) six_512 8 good) (omega arith)
 
 -- A chain of 512 parts has width 0 and is as high (2026-14)
@@ -325,12 +326,12 @@ chain_six : Clear (up_to 6) (chain 512)
 unfolding station_computing
 chain_six = refl
 
-pub chain_9 : (room : ℕ) → outcome (spaced_by 1 9 0 plain) (chain 512) room ≡ sent_back 14 4599
+pub chain_9 : (room : ℕ) → outcome (spaced_by 1 9 0 plain) (chain 512) room ≡ sent_back faults.NumberTooLarge 4599
 chain_9 room = let good = passes 9 (omega arith) (omega arith) in too_high 512 511 (omega arith) chain_six 9 good 4599 room (fourteen 512 511 (omega arith) chain_six 9 good)
 
 pub chain_8 :
     outcome (spaced_by 1 8 0 plain) (chain 512) 1536 ≡ written (sheet_of (spaced_by 1 8 0 plain) (chain 512)) (crossings (drawing (station_of (chain 512))))
 chain_8 = let good = passes 8 (omega arith) (omega arith) in fits 512 511 (omega arith) chain_six 8 good 1536 (fourteen 512 511 (omega arith) chain_six 8 good) (omega arith)
 
-pub chain_8_short : outcome (spaced_by 1 8 0 plain) (chain 512) 1535 ≡ sent_back 11 1536
+pub chain_8_short : outcome (spaced_by 1 8 0 plain) (chain 512) 1535 ≡ sent_back faults.OutputTooShort 1536
 chain_8_short = let good = passes 8 (omega arith) (omega arith) in short 512 511 (omega arith) chain_six 8 good 1535 (fourteen 512 511 (omega arith) chain_six 8 good) (omega arith)

@@ -1,15 +1,13 @@
 -- Request 2026-14 beside document 01's check 10, which refused every list with a cut part: a list that passed it has the outcome that it
 -- had. Assumes nothing.
+use Rattle.std.specs.Prelude.{Option, Some, None, Ok, Err}
 use Prim.Native.Nat.{ℕ}
 use mathlib.Core.Path.{◌≡◌, refl, sym, ap, ◌∙◌}
 use mathlib.Core.Logic.{◌⊎◌, inl, inr}
 use mathlib.Core.List.Memᴰ
 use mathlib.Core.List.{List, ◌∷◌, ◌++◌}
-use Rattle.lists.specs.declared.Found.{Found}
-use Rattle.lists.specs.declared.Found.TheVariants.{At, Nothing}
-use Rattle.checks.specs.declared.Verdict.{Verdict}
-use Rattle.checks.specs.declared.Verdict.TheVariants.{Passed, Refused}
-use Rattle.checks.specs.Checks.{Check, first_refusal, Clear}
+use Rattle.checks.specs.declared.Fault.TheVariants as faults
+use Rattle.checks.specs.Checks.{Check, first_refusal, Clear, Verdict}
 use Rattle.checks.specs.Outcome.{sent_back, if_passed}
 use Rattle.checks.proofs.FirstRefusal.{first_found, refused_before, found_same, clear_each, clear_prefix, clear_rest}
 use Rattle.station.specs.Station.{station_of}
@@ -27,7 +25,7 @@ use Rattle.hookup.specs.CutParts.{before10, cut_check, checks_with_cut, outcome_
 
 -- 10 of request 2026-14
 abbrev ten : Check
-ten = record { number = 10; finds = λ list. check10 (station_of list) }
+ten = record { fault = faults.SeparatingPart; finds = λ list. check10 (station_of list) }
 
 module _ (options : Options) where
   -- the checks of a call, around 10
@@ -51,7 +49,7 @@ module _ (options : Options) where
     list_before h = clear_rest list (option_checks options) list_checks (clear_prefix list (option_checks options ++ list_checks) _ h)
 
     -- a list that passed has no cut part
-    pub passed_uncut : Clear (checks_with_cut options) list → Clear list_checks list × (cut_part (station_of list) ≡ Nothing)
+    pub passed_uncut : Clear (checks_with_cut options) list → Clear list_checks list × (cut_part (station_of list) ≡ None)
     unfolding checks_with_cut
     passed_uncut h = (
       list_before (clear_prefix list (before10 options) (cut_check ∷ drawing_checks options) h),
@@ -59,7 +57,7 @@ module _ (options : Options) where
           (Memᴰ.head refl),
     )
 
-    module _ (eight : Clear list_checks list) (none : cut_part (station_of list) ≡ Nothing) where
+    module _ (eight : Clear list_checks list) (none : cut_part (station_of list) ≡ None) where
       uncut_same : first_refusal (call_checks options) list ≡ first_refusal (checks_with_cut options) list
       unfolding checks_with_cut
       uncut_same =
@@ -72,25 +70,25 @@ module _ (options : Options) where
 
     -- of every list: with document 01's check it was refused by 10, or its outcome is the same
     pub ten_or_same :
-        (room : ℕ) → ((p : ℕ) × (outcome_with_cut options list room ≡ sent_back 10 p)) ⊎ (outcome options list room ≡ outcome_with_cut options list room)
+        (room : ℕ) → ((p : ℕ) × (outcome_with_cut options list room ≡ sent_back faults.SeparatingPart p)) ⊎ (outcome options list room ≡ outcome_with_cut options list room)
     unfolding checks_with_cut outcome_with_cut if_passed
     ten_or_same room = go (first_refusal (before10 options) list) refl (cut_part (station_of list)) refl
       where
-        go : (v : Verdict) → first_refusal (before10 options) list ≡ v → (f : Found) → cut_part (station_of list) ≡ f
-            → ((p : ℕ) × (outcome_with_cut options list room ≡ sent_back 10 p)) ⊎ (outcome options list room ≡ outcome_with_cut options list room)
-        go (Refused k q) h f e =
+        go : (v : Verdict) → first_refusal (before10 options) list ≡ v → (f : Option ℕ) → cut_part (station_of list) ≡ f
+            → ((p : ℕ) × (outcome_with_cut options list room ≡ sent_back faults.SeparatingPart p)) ⊎ (outcome options list room ≡ outcome_with_cut options list room)
+        go (Err r) h f e =
             inr
             (verdict_decides room
             (checks_decide
-            ∙ refused_before list (before10 options) (ten ∷ drawing_checks options) k q h
-            ∙ sym (refused_before list (before10 options) (cut_check ∷ drawing_checks options) k q h)))
-        go Passed h (At p) e =
+            ∙ refused_before list (before10 options) (ten ∷ drawing_checks options) r.fault r.place h
+            ∙ sym (refused_before list (before10 options) (cut_check ∷ drawing_checks options) r.fault r.place h)))
+        go (Ok u) h (Some p) e =
             inl (
               p,
               ap (λ (v : Verdict). if_passed v (sheet_in options (drawing (station_of list)) room))
                   (first_found list (before10 options) cut_check (drawing_checks options) p h e),
             )
-        go Passed h Nothing e = inr (keeps_outcome (list_before h) e room)
+        go (Ok u) h None e = inr (keeps_outcome (list_before h) e room)
 
 -- 'earlier accepted lists keep their sheets': what passed with document 01's check under some options has the outcome that it had, under
 -- all

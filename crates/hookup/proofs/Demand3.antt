@@ -1,12 +1,12 @@
 -- Demand 3, whole, the order of demand 2, and the crossings (2026-02), for the words of the drawing of every list that is not sent back,
 -- whatever the caller gave. Assumes nothing.
+use Rattle.std.specs.Prelude.{None, Option}
 use Prim.Native.Nat.{ℕ, ◌+◌, ◌<◌, ◌≤◌, ◌^◌}
 use native.Mathlib.Omega.{arith}
 use mathlib.Core.Path.{◌≡◌, refl, sym, ap, ◌∙◌, subst}
 use mathlib.Core.Logic.{inl, inr, ⊎_elim}
 use mathlib.Core.List.{List, Memᴰ}
 use lib.ListN.{length, get_or, length-map}
-use Rattle.lists.specs.declared.Found.TheVariants.{Nothing}
 use Rattle.lists.proofs.Select.{get_d_map}
 use Rattle.station.specs.Station.{Station, station_of, no_cable}
 use Rattle.checks.specs.Checks.{Clear}
@@ -22,7 +22,6 @@ use Rattle.drawing.specs.Spacing.{row_at, spaced, check13, check14}
 use Rattle.drawing.specs.Sheet.{quoted_words}
 use Rattle.drawing.specs.Counts.{quote_count}
 use Rattle.drawing.proofs.Quoted.{quoted_length}
-use Rattle.prices.specs.declared.Discount.{Discount}
 use Rattle.drawing.specs.declared.spacing.Spacing.{Spacing}
 use Rattle.drawing.specs.Reading.{Endpoints, no_endpoints, parts_by_row, lengths_in}
 use Rattle.drawing.specs.Sizes.{Sizes, Exactly, ManyBends, Bends}
@@ -66,7 +65,7 @@ module _ (st : Station) (H : Orderable st) where
   }
 
   -- the sizes as document 01 has them
-  exact : (s : Spacing) (P : Spreads s) → check14 (spaced s (drawing st)) ≡ Nothing → (discount : Discount)
+  exact : (s : Spacing) (P : Spreads s) → check14 (spaced s (drawing st)) ≡ None → (discount : Option ℕ)
       → Exactly discount st.parts (length st.cables) (rows_below st) (rows_above st) (drawing st) (quoted_words s discount (drawing st))
   exact s P pass discount = record {
     width = (grid_sizes st H).width;
@@ -145,6 +144,6 @@ module _ (options : Options) (list : List ℕ) (pass : Clear (call_checks option
   words_most = quoted_most (station_of list) orderable options.spacing options.discount
 
 -- the drawing on the grid that demand 3 names is told by the words: no other is spaced so
-pub one_grid : (options : Options) (list sheet : List ℕ) → check13 options.spacing ≡ Nothing → (D E : Demand3 options list sheet) → D.grid ≡ E.grid
+pub one_grid : (options : Options) (list sheet : List ℕ) → check13 options.spacing ≡ None → (D E : Demand3 options list sheet) → D.grid ≡ E.grid
 one_grid options list sheet good D E =
     let s = options.spacing in spaced_one s (increases s (passed_13 s good)) D.grid E.grid (sym D.spacing ∙ E.spacing)

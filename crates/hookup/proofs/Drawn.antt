@@ -1,5 +1,6 @@
 -- The drawing of a station that was not sent back: it is the layout of its cables in ranks, under the parts' own numbers, and has its
 -- meetings, sizes, crossings, lengths and prices, in every spacing. Assumes nothing.
+use Rattle.std.specs.Prelude.{Some, None, Option}
 use Prim.Native.Nat.{ℕ, ◌+◌, ◌*◌, ◌<◌, ◌≤◌, ◌^◌, max}
 use native.Mathlib.Omega.{arith}
 use mathlib.Core.Path.{◌≡◌, refl, sym, ap, subst, subst₂, ◌∙◌}
@@ -9,10 +10,7 @@ use lib.ListN.{length, get_or, length-map}
 use lib.Seq.{ext_get_or}
 use borrow.Author.Tests.{le-ltb}
 use Rattle.words.specs.Limits.{most_parts, most_cables, most_words, most_quoted_words, most_field}
-use Rattle.prices.specs.declared.Discount.{Discount}
-use Rattle.prices.specs.declared.Discount.TheVariants.{NotGiven, Given}
 use Rattle.prices.specs.Quoted.{Quoted}
-use Rattle.lists.specs.declared.Found.TheVariants.{At, Nothing}
 use Rattle.lists.specs.Select.{tabulate, count}
 use Rattle.lists.proofs.Select.{get_d_map, get_d_tabulate, length_tabulate}
 use Rattle.station.specs.Station.{Station, no_cable}
@@ -58,9 +56,9 @@ abbrev pub ends_of : Station → List Endpoints
 ends_of st = map (ends_by (order st)) st.cables
 
 -- the words of the longest sheet, without a discount and with one
-abbrev pub most_words_for : Discount → ℕ
-most_words_for NotGiven = most_words
-most_words_for (Given discount) = most_quoted_words
+abbrev pub most_words_for : Option ℕ → ℕ
+most_words_for None = most_words
+most_words_for (Some discount) = most_quoted_words
 
 module _ (st : Station) where
   pub is_renumbered : drawing st ≡ renumbered (order st) (layout (graph_of st))
@@ -104,7 +102,7 @@ module _ (st : Station) where
     length_is s = sym (ap (λ (d : Drawing). length (sheet_words s d)) is_renumbered ∙ length_renumbered (order st) (layout (graph_of st)) s)
 
     pub quoted_length_is :
-        (s : Spacing) (discount : Discount) → length (quoted_words s discount (layout (graph_of st))) ≡ length (quoted_words s discount (drawing st))
+        (s : Spacing) (discount : Option ℕ) → length (quoted_words s discount (layout (graph_of st))) ≡ length (quoted_words s discount (drawing st))
     quoted_length_is s discount =
         sym (ap (λ (d : Drawing). length (quoted_words s discount d)) is_renumbered ∙ quoted_renumbered s discount (order st) (layout (graph_of st)))
 
@@ -233,13 +231,13 @@ module _ (st : Station) where
 
       -- 14 looks at the head alone
       pub head_alone :
-          let d = spaced s (drawing st) in check14 d ≡ cond (too_large (max d.width d.height)) (At (max d.width d.height)) Nothing
+          let d = spaced s (drawing st) in check14 d ≡ cond (too_large (max d.width d.height)) (Some (max d.width d.height)) None
       head_alone =
           head_decides (spaced s (drawing st)) (fields_within s grows (drawing st) meets st.parts (length st.cables) joins.parts_count routes_are grid_sizes)
 
       -- What the words show, whatever discount is given, where the numbers fit
 
-      module _ (pass : check14 (spaced s (drawing st)) ≡ Nothing) (discount : Discount) where
+      module _ (pass : check14 (spaced s (drawing st)) ≡ None) (discount : Option ℕ) where
         fits : DrawingFits st.parts (ends_of st) (spaced s (drawing st))
         fits = joins_fit st.parts (ends_of st) (spaced s (drawing st)) (joins_spaced s st.parts (ends_of st) (drawing st) joins) pass
 
@@ -283,7 +281,7 @@ module _ (st : Station) where
 
     -- On the grid every number fits
 
-    pub grid_fits : check14 (spaced on_grid (drawing st)) ≡ Nothing
+    pub grid_fits : check14 (spaced on_grid (drawing st)) ≡ None
     grid_fits =
         let d : Drawing = spaced on_grid (drawing st) in
         let S = grid_sizes in
@@ -297,6 +295,6 @@ module _ (st : Station) where
     words_most s =
         omega (arith, all_words s, cables_le (graph_of st) R, bottom_rows_le (graph_of st) R, top_rows_le (graph_of st) R, graph_parts st, graph_size st, H.wired.most)
 
-    pub quoted_most : (s : Spacing) (discount : Discount) → length (quoted_words s discount (drawing st)) ≤ most_words_for discount
-    quoted_most s NotGiven = omega (arith, quoted_length s NotGiven (drawing st), words_most s)
-    quoted_most s (Given k) = omega (arith, quoted_length s (Given k) (drawing st), words_most s, few_cables)
+    pub quoted_most : (s : Spacing) (discount : Option ℕ) → length (quoted_words s discount (drawing st)) ≤ most_words_for discount
+    quoted_most s None = omega (arith, quoted_length s None (drawing st), words_most s)
+    quoted_most s (Some k) = omega (arith, quoted_length s (Some k) (drawing st), words_most s, few_cables)

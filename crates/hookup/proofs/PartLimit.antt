@@ -8,8 +8,8 @@ use mathlib.Core.Logic.{◌⊎◌, inl, inr, ⊎_elim}
 use mathlib.Core.List.{List, ◌∷◌, ◌++◌}
 use Rattle.lists.specs.Select.{filter}
 use Rattle.words.specs.Limits.{most_parts}
-use Rattle.checks.specs.declared.Verdict.{Verdict}
-use Rattle.checks.specs.Checks.{Check, first_refusal}
+use Rattle.checks.specs.declared.Fault.TheVariants as faults
+use Rattle.checks.specs.Checks.{Check, first_refusal, Verdict}
 use Rattle.checks.specs.Outcome.{sent_back, if_passed}
 use Rattle.checks.proofs.FirstRefusal.{found_same, refused_or_same}
 use Rattle.station.specs.Station.{station_of}
@@ -31,14 +31,14 @@ module _ (options : Options) where
   limit_512 = ap (λ (cs : List Check). (option_checks options ++ (cs ++ station_checks)) ++ drawing_checks options) limit_is
 
   abbrev four : ℕ → Check
-  four most = record { number = 4; finds = check4_within most }
+  four most = record { fault = faults.WrongPartCount; finds = check4_within most }
 
   abbrev before4 : List Check
   before4 = option_checks options ++ up_to 3
 
   abbrev behind4 : List Check
   behind4 =
-      record { number = 5; finds = check5 } ∷ record { number = 6; finds = check6 } ∷ record { number = 8; finds = check8 } ∷ station_checks ++ drawing_checks options
+      record { fault = faults.PartOutside; finds = check5 } ∷ record { fault = faults.SelfLoop; finds = check6 } ∷ record { fault = faults.CrowdedPart; finds = check8 } ∷ station_checks ++ drawing_checks options
 
   around_4 : (most : ℕ) → checks_within most options ≡ before4 ++ four most ∷ behind4
   unfolding checks_within list_checks_within list_checks option_checks station_checks filter
@@ -74,7 +74,7 @@ module _ (options : Options) where
     -- of every list: with 256 it was refused by 4, for its n, or its outcome is the same
     pub four_or_same :
         (room : ℕ)
-        → ((former_parts < (station_of list).parts) × (outcome_within former_parts options list room ≡ sent_back 4 (station_of list).parts))
+        → ((former_parts < (station_of list).parts) × (outcome_within former_parts options list room ≡ sent_back faults.WrongPartCount (station_of list).parts))
         ⊎ (outcome options list room ≡ outcome_within former_parts options list room)
     unfolding outcome_within if_passed
     four_or_same room = go (dec_lt former_parts (station_of list).parts)
@@ -83,7 +83,7 @@ module _ (options : Options) where
         to_verdict = ap (λ (cs : List Check). first_refusal cs list) (around_4 former_parts)
 
         go : Dec (former_parts < (station_of list).parts)
-            → ((former_parts < (station_of list).parts) × (outcome_within former_parts options list room ≡ sent_back 4 (station_of list).parts))
+            → ((former_parts < (station_of list).parts) × (outcome_within former_parts options list room ≡ sent_back faults.WrongPartCount (station_of list).parts))
             ⊎ (outcome options list room ≡ outcome_within former_parts options list room)
         go (no h) = inr (keeps_outcome (omega arith) room)
         go (yes h) =

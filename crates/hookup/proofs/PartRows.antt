@@ -1,4 +1,5 @@
 -- The rows of the parts on a sheet, and the parts by rising row: the order, in every spacing. Assumes nothing.
+use Rattle.std.specs.Prelude.{None, Option}
 use Prim.Native.Nat.{ℕ, suc, ◌+◌, ◌-◌, ◌<◌, ◌≤◌, min, max}
 use native.Mathlib.Omega.{arith}
 use native.Mathlib.Decide.{ℕ_discrete}
@@ -9,7 +10,6 @@ use mathlib.Core.List.{◌++◌, map, Memᴰ}
 use lib.Dec.{eqb}
 use borrow.Author.Tests.{eqb-true, eq-eqb}
 use lib.ListN.{length, get_or, length-map, length-append, get_or-append}
-use Rattle.lists.specs.declared.Found.TheVariants.{Nothing}
 use Rattle.lists.specs.Select.{range, count, sort_by, one_if}
 use Rattle.lists.proofs.Select.{get_d_map, length_filter}
 use Rattle.lists.proofs.Bools.{or_e, or_left, or_right, same_test}
@@ -19,7 +19,6 @@ use Rattle.lists.proofs.Places.{mem-place}
 use Rattle.lists.proofs.Rising.{strictly_of_places, sort_by_strictly}
 use Rattle.words.specs.Words.{second_of, part}
 use Rattle.words.proofs.Words.{fields_apart}
-use Rattle.prices.specs.declared.Discount.{Discount}
 use Rattle.station.specs.Station.{Cable, Station, joins as joined, degree, no_cable}
 use Rattle.order.specs.Order.{order, rank_in}
 use Rattle.order.specs.StOrder.{StOrdering}
@@ -55,7 +54,7 @@ part_word_lem d p h =
     rw q (get_or-append (map part_spot_word d.parts) (cables_section d) 0 p g ∙ get_d_map part_spot_word d.parts p origin 0 h)
 
 part_word_quoted :
-    (s : Spacing) (discount : Discount) (d : Drawing) (p : ℕ) → p < length d.parts
+    (s : Spacing) (discount : Option ℕ) (d : Drawing) (p : ℕ) → p < length d.parts
     → get_or (quoted_words s discount d) (1 + p) 0 ≡ part_spot_word (spaced_spot s (spot_of d p))
 unfolding quoted_words sheet_words
 part_word_quoted s discount d p h =
@@ -90,7 +89,7 @@ module _ (st : Station) (H : Orderable st) where
 
   -- On the sheet
 
-  module _ (s : Spacing) (P : Spreads s) (pass : check14 (spaced s (drawing st)) ≡ Nothing) (discount : Discount) where
+  module _ (s : Spacing) (P : Spreads s) (pass : check14 (spaced s (drawing st)) ≡ None) (discount : Option ℕ) where
     word_of_row : (p : ℕ) → p < st.parts → second_of (get_or (quoted_words s discount (drawing st)) (1 + p) 0) ≡ row_at s (bottom_rows (graph_of st) + rank_in (order st) p)
     unfolding spaced_spot
     word_of_row p h =
@@ -217,7 +216,7 @@ module _ (st : Station) (H : Orderable st) where
 
 -- the parts by rising row are the parts by rank
 pub parts_by_row_lem :
-    (st : Station) (H : Orderable st) (s : Spacing) (P : Spreads s) → check14 (spaced s (drawing st)) ≡ Nothing → (discount : Discount)
+    (st : Station) (H : Orderable st) (s : Spacing) (P : Spreads s) → check14 (spaced s (drawing st)) ≡ None → (discount : Option ℕ)
     → parts_by_row st.parts (quoted_words s discount (drawing st)) ≡ order st
 unfolding parts_by_row row_of
 parts_by_row_lem st H s P pass discount = by_row st H s P pass discount

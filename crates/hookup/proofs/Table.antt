@@ -24,6 +24,7 @@ use Rattle.drawing.proofs.Worked.{thirteen}
 use Rattle.hookup.specs.Options.{plain, quoted, spaced_by}
 use Rattle.hookup.specs.Drawing.{drawing}
 use Rattle.hookup.specs.Outcome.{outcome}
+use Rattle.checks.specs.declared.Fault.TheVariants as faults
 use Rattle.checks.specs.Outcome.{sent_back, written}
 use Rattle.hookup.proofs.Demand3.{sheet_of}
 use Rattle.hookup.proofs.Chains.{chain, ring, ring_64, ring_17, ring_16, ring_16_short, ring_9, ring_8, ring_8_short, chain_9, chain_8, chain_8_short}
@@ -111,33 +112,33 @@ abbrev room : ℕ
 room = 8192
 
 pub record Table : Type 0 where
-  refusal_1 : outcome plain [] room ≡ sent_back 1 0
-  refusal_2 : outcome plain (0x20030000 ∷ 0x20000002 ∷ []) room ≡ sent_back 2 0
-  refusal_3 : outcome plain (0x10030001 ∷ 0x20000002 ∷ []) room ≡ sent_back 3 3
-  refusal_4 : outcome plain (0x10020000 ∷ 0x20000001 ∷ []) room ≡ sent_back 4 2
-  refusal_5 : outcome plain (0x10030000 ∷ 0x20000003 ∷ []) room ≡ sent_back 5 1
-  refusal_6 : outcome plain (0x10030000 ∷ 0x20001001 ∷ []) room ≡ sent_back 6 1
+  refusal_1 : outcome plain [] room ≡ sent_back faults.TooFewWords 0
+  refusal_2 : outcome plain (0x20030000 ∷ 0x20000002 ∷ []) room ≡ sent_back faults.MisplacedWord 0
+  refusal_3 : outcome plain (0x10030001 ∷ 0x20000002 ∷ []) room ≡ sent_back faults.WrongLength 3
+  refusal_4 : outcome plain (0x10020000 ∷ 0x20000001 ∷ []) room ≡ sent_back faults.WrongPartCount 2
+  refusal_5 : outcome plain (0x10030000 ∷ 0x20000003 ∷ []) room ≡ sent_back faults.PartOutside 1
+  refusal_6 : outcome plain (0x10030000 ∷ 0x20001001 ∷ []) room ≡ sent_back faults.SelfLoop 1
   -- 2026-12: check 7's 'example now gets 9 at 2'
-  repeated : outcome plain (0x10030002 ∷ 0x20000002 ∷ 0x30000001 ∷ 0x30001000 ∷ []) room ≡ sent_back 9 2
-  refusal_8 : outcome plain (0x10060005 ∷ 0x20000005 ∷ 0x30000001 ∷ 0x30000002 ∷ 0x30000003 ∷ 0x30000004 ∷ 0x30000005 ∷ []) room ≡ sent_back 8 0
-  refusal_9 : outcome plain (0x10030001 ∷ 0x20000002 ∷ 0x30000001 ∷ []) room ≡ sent_back 9 2
+  repeated : outcome plain (0x10030002 ∷ 0x20000002 ∷ 0x30000001 ∷ 0x30001000 ∷ []) room ≡ sent_back faults.UnreachedPart 2
+  refusal_8 : outcome plain (0x10060005 ∷ 0x20000005 ∷ 0x30000001 ∷ 0x30000002 ∷ 0x30000003 ∷ 0x30000004 ∷ 0x30000005 ∷ []) room ≡ sent_back faults.CrowdedPart 0
+  refusal_9 : outcome plain (0x10030001 ∷ 0x20000002 ∷ 0x30000001 ∷ []) room ≡ sent_back faults.UnreachedPart 2
   -- 2026-14: 'Check 10's example is now drawn, with width 0; with t = 1 it is still refused at 1'
   chain_drawn :
       outcome plain three_in_line 9
       ≡ written
       (0x40000002 ∷ 0x50000000 ∷ 0x50000001 ∷ 0x50000002 ∷ 0x60000000 ∷ 0x60001000 ∷ 0x80000001 ∷ 0x80001001 ∷ 0xa0000002 ∷ [])
       0
-  refusal_10 : outcome plain (0x10030002 ∷ 0x20000001 ∷ 0x30000001 ∷ 0x30001002 ∷ []) room ≡ sent_back 10 1
+  refusal_10 : outcome plain (0x10030002 ∷ 0x20000001 ∷ 0x30000001 ∷ 0x30001002 ∷ []) room ≡ sent_back faults.SeparatingPart 1
   -- 2026-01: 'check 11 measures them too: the triangle needs 13'
-  refusal_11 : outcome plain triangle 12 ≡ sent_back 11 13
+  refusal_11 : outcome plain triangle 12 ≡ sent_back faults.OutputTooShort 13
   -- 2026-11: 'Check 4 allows 512', and refuses 513
-  parts_512 : outcome plain (0x12000000 ∷ 0x20000001 ∷ []) room ≡ sent_back 9 1
-  parts_513 : outcome plain (0x12010000 ∷ 0x20000001 ∷ []) room ≡ sent_back 4 513
+  parts_512 : outcome plain (0x12000000 ∷ 0x20000001 ∷ []) room ≡ sent_back faults.UnreachedPart 1
+  parts_513 : outcome plain (0x12010000 ∷ 0x20000001 ∷ []) room ≡ sent_back faults.WrongPartCount 513
   -- 'With 256 parts check 4 passes', and now with 257
-  parts_256 : outcome plain (0x11000000 ∷ 0x20000002 ∷ []) room ≡ sent_back 9 1
-  parts_257 : outcome plain (0x11010000 ∷ 0x20000002 ∷ []) room ≡ sent_back 9 1
+  parts_256 : outcome plain (0x11000000 ∷ 0x20000002 ∷ []) room ≡ sent_back faults.UnreachedPart 1
+  parts_257 : outcome plain (0x11010000 ∷ 0x20000002 ∷ []) room ≡ sent_back faults.UnreachedPart 1
   -- 'four cables at a part pass check 8'
-  four_cables : outcome plain (0x10050004 ∷ 0x20000004 ∷ 0x30000001 ∷ 0x30000002 ∷ 0x30000003 ∷ 0x30000004 ∷ []) room ≡ sent_back 10 0
+  four_cables : outcome plain (0x10050004 ∷ 0x20000004 ∷ 0x30000001 ∷ 0x30000002 ∷ 0x30000003 ∷ 0x30000004 ∷ []) room ≡ sent_back faults.SeparatingPart 0
   -- 2026-01: 'The triangle ends `80000001 80001001 80002004 a0000006`', and an output of 13 takes it
   triangle_13 :
       outcome plain triangle 13
@@ -176,26 +177,26 @@ pub record Table : Type 0 where
       ≡ written
       (0x40001003 ∷ 0x50000000 ∷ 0x50000001 ∷ 0x50000003 ∷ 0x50001002 ∷ 0x60000000 ∷ 0x60001000 ∷ 0x60002001 ∷ 0x70001003 ∷ 0x60003001 ∷ 0x70001000 ∷ 0x80000001 ∷ 0x80001002 ∷ 0x80002002 ∷ 0x80003003 ∷ 0xa0000008 ∷ [])
       0
-  b_short : outcome plain square 15 ≡ sent_back 11 16
+  b_short : outcome plain square 15 ≡ sent_back faults.OutputTooShort 16
   c_drawn :
       outcome plain station_c 20
       ≡ written
       (0x40002003 ∷ 0x50001000 ∷ 0x50000002 ∷ 0x50000003 ∷ 0x50000001 ∷ 0x60000001 ∷ 0x70001002 ∷ 0x60001001 ∷ 0x70000000 ∷ 0x60002000 ∷ 0x60003000 ∷ 0x60004002 ∷ 0x70002000 ∷ 0x70002003 ∷ 0x80000003 ∷ 0x80001002 ∷ 0x80002001 ∷ 0x80003001 ∷ 0x80004006 ∷ 0xa000000d ∷ [])
       0
-  c_short : outcome plain station_c 19 ≡ sent_back 11 20
+  c_short : outcome plain station_c 19 ≡ sent_back faults.OutputTooShort 20
   d_drawn :
       outcome plain station_d 41
       ≡ written
       (0x40006006 ∷ 0x50002001 ∷ 0x50005002 ∷ 0x50001003 ∷ 0x50002004 ∷ 0x50003005 ∷ 0x60000002 ∷ 0x70002000 ∷ 0x70005000 ∷ 0x60001001 ∷ 0x70001001 ∷ 0x60002000 ∷ 0x60003001 ∷ 0x70003001 ∷ 0x60004002 ∷ 0x70004002 ∷ 0x70004003 ∷ 0x60005001 ∷ 0x70005004 ∷ 0x60006002 ∷ 0x70006002 ∷ 0x70006005 ∷ 0x60007002 ∷ 0x70000003 ∷ 0x70000004 ∷ 0x60008001 ∷ 0x70001005 ∷ 0x60009002 ∷ 0x70002006 ∷ 0x70003006 ∷ 0x80000006 ∷ 0x80001003 ∷ 0x80002003 ∷ 0x80003005 ∷ 0x80004005 ∷ 0x80005005 ∷ 0x80006007 ∷ 0x80007004 ∷ 0x80008004 ∷ 0x80009004 ∷ 0xa000002e ∷ [])
       5
-  d_short : outcome plain station_d 40 ≡ sent_back 11 41
+  d_short : outcome plain station_d 40 ≡ sent_back faults.OutputTooShort 41
   -- 2026-12: 'Among equal ranks of far ends the lower line comes first': line 0 goes left, line 3 in the part's own column
   pair_triangle_lem :
       outcome plain pair_triangle 17
       ≡ written
       (0x40002002 ∷ 0x50001000 ∷ 0x50000001 ∷ 0x50000002 ∷ 0x60000001 ∷ 0x70000000 ∷ 0x60001000 ∷ 0x60002002 ∷ 0x70002000 ∷ 0x70002002 ∷ 0x60003001 ∷ 0x70001001 ∷ 0x80000002 ∷ 0x80001001 ∷ 0x80002005 ∷ 0x80003002 ∷ 0xa000000a ∷ [])
       0
-  pair_short : outcome plain pair_triangle 16 ≡ sent_back 11 17
+  pair_short : outcome plain pair_triangle 16 ≡ sent_back faults.OutputTooShort 17
   -- lines 0 and 2 left of lines 1 and 3
   pairs_drawn :
       outcome plain pairs 21
@@ -223,19 +224,19 @@ pub record Table : Type 0 where
       1
   above_bends : map (λ r. length r.corners) (drawing_of_list pair_above).routes ≡ 1 ∷ 1 ∷ 2 ∷ 0 ∷ 1 ∷ 3 ∷ 1 ∷ []
   -- 2026-14: a chain of four with s in the middle, which separates the part behind it; with t there; with s at an end it is drawn
-  chain_source_inside : outcome plain (0x10040003 ∷ 0x20001003 ∷ 0x30000001 ∷ 0x30001002 ∷ 0x30002003 ∷ []) room ≡ sent_back 10 1
-  chain_analyser_inside : outcome plain (0x10040003 ∷ 0x20000002 ∷ 0x30000001 ∷ 0x30001002 ∷ 0x30002003 ∷ []) room ≡ sent_back 10 2
+  chain_source_inside : outcome plain (0x10040003 ∷ 0x20001003 ∷ 0x30000001 ∷ 0x30001002 ∷ 0x30002003 ∷ []) room ≡ sent_back faults.SeparatingPart 1
+  chain_analyser_inside : outcome plain (0x10040003 ∷ 0x20000002 ∷ 0x30000001 ∷ 0x30001002 ∷ 0x30002003 ∷ []) room ≡ sent_back faults.SeparatingPart 2
   -- s in the middle of three
-  chain_source_between : outcome plain (0x10030002 ∷ 0x20001002 ∷ 0x30000001 ∷ 0x30001002 ∷ []) room ≡ sent_back 10 1
+  chain_source_between : outcome plain (0x10030002 ∷ 0x20001002 ∷ 0x30000001 ∷ 0x30001002 ∷ []) room ≡ sent_back faults.SeparatingPart 1
   -- a part with one cable that is neither end is refused at its neighbour
-  pendant : outcome plain (0x10040004 ∷ 0x20000002 ∷ 0x30000001 ∷ 0x30001002 ∷ 0x30000002 ∷ 0x30001003 ∷ []) room ≡ sent_back 10 1
+  pendant : outcome plain (0x10040004 ∷ 0x20000002 ∷ 0x30000001 ∷ 0x30001002 ∷ 0x30000002 ∷ 0x30001003 ∷ []) room ≡ sent_back faults.SeparatingPart 1
   -- a ladder of six with a chain at either end
   ladder_drawn :
       outcome plain chained_ladder 32
       ≡ written
       (0x40002007 ∷ 0x50000000 ∷ 0x50000001 ∷ 0x50000002 ∷ 0x50001003 ∷ 0x50000004 ∷ 0x50002005 ∷ 0x50000006 ∷ 0x50000007 ∷ 0x60000000 ∷ 0x60001000 ∷ 0x60002001 ∷ 0x70001001 ∷ 0x60003000 ∷ 0x60004001 ∷ 0x70001004 ∷ 0x60005001 ∷ 0x70002003 ∷ 0x60006000 ∷ 0x60007001 ∷ 0x70002006 ∷ 0x60008000 ∷ 0x80000001 ∷ 0x80001001 ∷ 0x80002003 ∷ 0x80003002 ∷ 0x80004002 ∷ 0x80005003 ∷ 0x80006002 ∷ 0x80007003 ∷ 0x80008001 ∷ 0xa0000012 ∷ [])
       0
-  chain_short : outcome plain three_in_line 8 ≡ sent_back 11 9
+  chain_short : outcome plain three_in_line 8 ≡ sent_back faults.OutputTooShort 9
   -- at width 0: prices, and a spacing, whose margins are all of its width
   chain_quoted :
       outcome (quoted 0) three_in_line 12
@@ -256,11 +257,11 @@ pub record Table : Type 0 where
   quoted_1250 : outcome (quoted 1250) triangle 17 ≡ written (thirteen ++ 849 ∷ 849 ∷ 910 ∷ 2608 ∷ []) 0
   quoted_5 : outcome (quoted 5) triangle 17 ≡ written (thirteen ++ 970 ∷ 970 ∷ 1039 ∷ 2979 ∷ []) 0
   quoted_10000 : outcome (quoted 10000) triangle 17 ≡ written (thirteen ++ 0 ∷ 0 ∷ 0 ∷ 0 ∷ []) 0
-  quoted_short : outcome (quoted 0) triangle 16 ≡ sent_back 11 17
+  quoted_short : outcome (quoted 0) triangle 16 ≡ sent_back faults.OutputTooShort 17
   -- 'a discount above 10,000, tested before the list; its place is the discount'
-  refusal_12 : outcome (quoted 10001) triangle room ≡ sent_back 12 10001
-  refusal_12_first : outcome (quoted 10001) [] 0 ≡ sent_back 12 10001
-  discount_10000 : outcome (quoted 10000) [] 0 ≡ sent_back 1 0
+  refusal_12 : outcome (quoted 10001) triangle room ≡ sent_back faults.DiscountTooHigh 10001
+  refusal_12_first : outcome (quoted 10001) [] 0 ≡ sent_back faults.DiscountTooHigh 10001
+  discount_10000 : outcome (quoted 10000) [] 0 ≡ sent_back faults.TooFewWords 0
   -- D's lengths 6, 3, 3, 5, 5, 5, 7, 4, 4 and 4 take 6, 3, 3, 6, 6, 6, 8, 4, 4 and 4 steps; a discount of 10 percent leaves half a cent of
   -- 1,005 cents
   d_quoted :
@@ -268,7 +269,7 @@ pub record Table : Type 0 where
   -- 2026-06: the triangle with column pitch 2, row pitch 3 and margin 10; run lengths 'and the bill still count grid steps'
   spaced_triangle : outcome (spaced_by 2 3 10 plain) triangle 13 ≡ written printed 0
   spaced_quoted : outcome (spaced_by 2 3 10 (quoted 1250)) triangle 17 ≡ written (printed ++ 849 ∷ 849 ∷ 910 ∷ 2608 ∷ []) 0
-  spaced_short : outcome (spaced_by 2 3 10 plain) triangle 12 ≡ sent_back 11 13
+  spaced_short : outcome (spaced_by 2 3 10 plain) triangle 12 ≡ sent_back faults.OutputTooShort 13
   -- the greatest pitches and margin
   widest :
       outcome (spaced_by 64 64 255 plain) triangle 13
@@ -277,29 +278,29 @@ pub record Table : Type 0 where
       0
   -- 'With pitches 1 and margin 0 .. the sheet is the one known so far.'
   on_grid_lem : outcome (spaced_by 1 1 0 plain) triangle 13 ≡ written thirteen 0
-  d_spaced : outcome (spaced_by 3 2 1 plain) station_d 40 ≡ sent_back 11 41
+  d_spaced : outcome (spaced_by 3 2 1 plain) station_d 40 ≡ sent_back faults.OutputTooShort 41
   -- 13: 'place 0 for column pitch, 1 for row pitch, 2 for margin, first fault given', 'tested after 12 and before the list'
-  refusal_13 : outcome (spaced_by 0 0 0 plain) triangle room ≡ sent_back 13 0
-  refusal_13_row : outcome (spaced_by 1 65 256 plain) triangle room ≡ sent_back 13 1
-  refusal_13_margin : outcome (spaced_by 64 64 256 plain) triangle room ≡ sent_back 13 2
-  refusal_13_column : outcome (spaced_by 65 1 0 plain) triangle room ≡ sent_back 13 0
-  refusal_13_first : outcome (spaced_by 1 0 0 plain) [] 0 ≡ sent_back 13 1
-  refusal_13_last : outcome (spaced_by 0 0 0 (quoted 10001)) [] 0 ≡ sent_back 12 10001
-  spacing_passes : outcome (spaced_by 64 64 255 plain) [] 0 ≡ sent_back 1 0
+  refusal_13 : outcome (spaced_by 0 0 0 plain) triangle room ≡ sent_back faults.WrongSpacing 0
+  refusal_13_row : outcome (spaced_by 1 65 256 plain) triangle room ≡ sent_back faults.WrongSpacing 1
+  refusal_13_margin : outcome (spaced_by 64 64 256 plain) triangle room ≡ sent_back faults.WrongSpacing 2
+  refusal_13_column : outcome (spaced_by 65 1 0 plain) triangle room ≡ sent_back faults.WrongSpacing 0
+  refusal_13_first : outcome (spaced_by 1 0 0 plain) [] 0 ≡ sent_back faults.WrongSpacing 1
+  refusal_13_last : outcome (spaced_by 0 0 0 (quoted 10001)) [] 0 ≡ sent_back faults.DiscountTooHigh 10001
+  spacing_passes : outcome (spaced_by 64 64 255 plain) [] 0 ≡ sent_back faults.TooFewWords 0
   -- 14: 'a coordinate or head field above 4,095 .., its place the largest such number', before 11: the ring of 256 parts is 255 high, and
   -- 16 is the largest row pitch that fits
-  refusal_14 : (room : ℕ) → outcome (spaced_by 1 64 0 plain) (ring 256) room ≡ sent_back 14 16320
-  refusal_14_least : (room : ℕ) → outcome (spaced_by 1 17 0 plain) (ring 256) room ≡ sent_back 14 4335
+  refusal_14 : (room : ℕ) → outcome (spaced_by 1 64 0 plain) (ring 256) room ≡ sent_back faults.NumberTooLarge 16320
+  refusal_14_least : (room : ℕ) → outcome (spaced_by 1 17 0 plain) (ring 256) room ≡ sent_back faults.NumberTooLarge 4335
   ring_fits : outcome (spaced_by 1 16 0 plain) (ring 256) 772 ≡ written (sheet_of (spaced_by 1 16 0 plain) (ring 256)) (crossings (drawing_of_list (ring 256)))
-  ring_short : outcome (spaced_by 1 16 0 plain) (ring 256) 771 ≡ sent_back 11 772
+  ring_short : outcome (spaced_by 1 16 0 plain) (ring 256) 771 ≡ sent_back faults.OutputTooShort 772
   -- 2026-11: the ring of 512 parts is 511 high, and 8 is the largest row pitch that fits
-  refusal_14_512 : (room : ℕ) → outcome (spaced_by 1 9 0 plain) (ring 512) room ≡ sent_back 14 4599
+  refusal_14_512 : (room : ℕ) → outcome (spaced_by 1 9 0 plain) (ring 512) room ≡ sent_back faults.NumberTooLarge 4599
   ring_512_fits : outcome (spaced_by 1 8 0 plain) (ring 512) 1540 ≡ written (sheet_of (spaced_by 1 8 0 plain) (ring 512)) (crossings (drawing_of_list (ring 512)))
-  ring_512_short : outcome (spaced_by 1 8 0 plain) (ring 512) 1539 ≡ sent_back 11 1540
+  ring_512_short : outcome (spaced_by 1 8 0 plain) (ring 512) 1539 ≡ sent_back faults.OutputTooShort 1540
   -- 2026-14: a chain of 512 parts is 0 wide and 511 high
-  refusal_14_chain : (room : ℕ) → outcome (spaced_by 1 9 0 plain) (chain 512) room ≡ sent_back 14 4599
+  refusal_14_chain : (room : ℕ) → outcome (spaced_by 1 9 0 plain) (chain 512) room ≡ sent_back faults.NumberTooLarge 4599
   chain_512_fits : outcome (spaced_by 1 8 0 plain) (chain 512) 1536 ≡ written (sheet_of (spaced_by 1 8 0 plain) (chain 512)) (crossings (drawing_of_list (chain 512)))
-  chain_512_short : outcome (spaced_by 1 8 0 plain) (chain 512) 1535 ≡ sent_back 11 1536
+  chain_512_short : outcome (spaced_by 1 8 0 plain) (chain 512) 1535 ≡ sent_back faults.OutputTooShort 1536
 
 pub table : Table
 unfolding hookup_computing

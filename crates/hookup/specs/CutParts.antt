@@ -1,5 +1,6 @@
 -- The checks of a call with document 01's check 10 in the place of request 2026-14's, and what a call answers by these. Assumes nothing.
 use Rattle.std.specs.Prelude.{ℕ, List, [], ◌∷◌, ◌++◌}
+use Rattle.checks.specs.declared.Fault.TheVariants as faults
 use Rattle.checks.specs.Checks.{Check, first_refusal}
 use Rattle.checks.specs.Outcome.{if_passed}
 use Rattle.station.specs.Station.{station_of}
@@ -13,11 +14,11 @@ use Rattle.hookup.specs.Outcome.{Outcome, sheet_in}
 
 -- 12 and 13, 1 to 8, and 9
 unfoldable pub before10 : Options → List Check
-before10 options = (option_checks options ++ list_checks) ++ record { number = 9; finds = λ list. check9 (station_of list) } ∷ []
+before10 options = (option_checks options ++ list_checks) ++ record { fault = faults.UnreachedPart; finds = λ list. check9 (station_of list) } ∷ []
 
 -- 10: 'a part whose removal leaves two others without a path', 'lowest such part'
 abbrev pub cut_check : Check
-cut_check = record { number = 10; finds = λ list. cut_part (station_of list) }
+cut_check = record { fault = faults.SeparatingPart; finds = λ list. cut_part (station_of list) }
 
 -- those before 10, document 01's 10, and 14
 unfoldable pub checks_with_cut : Options → List Check

@@ -1,17 +1,16 @@
 -- What a caller may give beside the list: a customer's discount (request 2026-05) and a spacing (2026-06). Assumes nothing.
-use Rattle.std.specs.Prelude.{ℕ}
-use Rattle.prices.specs.declared.Discount.TheVariants.{NotGiven, Given}
+use Rattle.std.specs.Prelude.{ℕ, Some, None}
 use Rattle.drawing.specs.declared.spacing.Spacing.{Spacing}
 use Rattle.drawing.specs.Spacing.{spacing_of, on_grid}
 use Rattle.hookup.specs.declared.Options.{Options}
 
 -- 'The sheet program gives none.' 2026-06: 'With pitches 1 and margin 0, which the sheet program uses'
 abbrev pub plain : Options
-plain = record { discount = NotGiven; spacing = on_grid }
+plain = record { discount = None; spacing = on_grid }
 
 -- 'A call given a discount'
 abbrev pub quoted : ℕ → Options
-quoted discount = record { discount = Given discount; spacing = on_grid }
+quoted discount = record { discount = Some discount; spacing = on_grid }
 
 -- 2026-06: 'The caller gives a column pitch, a row pitch and a margin', beside what else is given
 abbrev pub spaced_with : Spacing → Options → Options

@@ -5,12 +5,11 @@ ghost use Rattle.std.specs.Prelude.{◌≡◌};
 ghost use Rattle.hookup.specs.Options as given;
 
 use drawing::spacing::Spacing;
-use prices::Discount;
 
 // What the caller may give beside the list.
-#[derive(Clone, Copy)]
+#[derive(Clone, Copy, Debug, PartialEq, Eq)]
 pub struct Options {
-    pub discount: Discount,
+    pub discount: Option<u32>,
     pub spacing: Spacing,
 }
 
@@ -20,7 +19,7 @@ impl Options {
         ensures { result ≡ given.plain }
     {
         Options {
-            discount: Discount::NotGiven,
+            discount: None,
             spacing: Spacing::on_grid(),
         }
     }
@@ -30,8 +29,8 @@ impl Options {
         ensures { result ≡ given.quoted discount }
     {
         Options {
-            discount: Discount::Given(discount),
-            spacing: Spacing::on_grid(),
+            discount: Some(discount),
+            ..Options::plain()
         }
     }
 
@@ -39,14 +38,13 @@ impl Options {
     pub fn spaced(self, spacing: Spacing) -> Options
         ensures { result ≡ given.spaced_with spacing self }
     {
-        let discount = self.discount;
-        Options { discount, spacing }
+        Options { spacing, ..self }
     }
 }
 
 // 'A successful call returns the words written and the crossings'; a refusal 'returns its number and one place, and writes no word'.
-#[derive(Clone, Copy)]
-pub enum Answer {
-    Sheet { words: usize, crossings: usize },
-    Refused { check: u8, place: usize },
+#[derive(Clone, Copy, Debug, PartialEq, Eq)]
+pub struct Sheet {
+    pub words: usize,
+    pub crossings: usize,
 }

@@ -1,6 +1,6 @@
--- Laws of the lines at one rank: put in by their keys (Insertion, Collecting), the line that is set apart (LineSearch), at most four (Few).
+-- Laws of the lines at one rank: put in by their keys (Insertion, LinesFrom), the line that is set apart (LineSearch), at most four (Few).
 -- Assumes nothing.
 pub mod Insertion
 pub mod LineSearch
-pub mod Collecting
+pub mod LinesFrom
 pub mod Few

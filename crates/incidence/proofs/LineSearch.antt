@@ -1,43 +1,33 @@
 -- The bottom and the top connection as the code finds them: where a rank has four cables the one set apart is put last, where it has fewer
 -- the sorted lines are the outgoing or the incoming cables as they stand. The fourth of an end's cables is its connection, a line exactly
 -- where there are four. Assumes nothing.
+use Rattle.std.specs.Prelude.{Option, Some, None, unwrap_or}
 use Prim.Native.Nat.{ℕ, ◌-◌, ◌<◌, ◌≤◌}
 use native.Mathlib.Omega.{arith}
 use native.Mathlib.Decide.{dec_lt, ℕ_discrete}
 use mathlib.Core.Path.{◌≡◌, refl, sym, ap, ap₂, ◌∙◌}
-use mathlib.Core.Bool.{Bool, cond, ◌&&◌}
+use mathlib.Core.Bool.{cond, ◌&&◌}
 use mathlib.Core.List.{List, Memᴰ}
 use lib.ListN.{length, get_or, take, get_or-eq_default}
 use lib.Dec.{eqb, ltb}
 use borrow.Author.Tests.{eq-eqb, ne_eqb, lt-ltb, le-ltb}
-use Rattle.lists.specs.declared.Found.{Found}
 use Rattle.lists.specs.Search.{seek, place_or}
 use Rattle.lists.specs.Select.{lastly, index_of, sort_by, one_if}
+use Rattle.lists.proofs.Filters.{seek_same}
 use Rattle.lists.proofs.Select.{get_d_index_of}
 use Rattle.lists.proofs.Sort.{sort_by_e}
 use Rattle.lists.proofs.Lastly.{lastly_absent}
-use Rattle.words.specs.declared.Rank.{Rank}
+use Rattle.ranking.specs.declared.graph.Span.{Span}
+use Rattle.ranking.specs.declared.graph.Graph.{Graph}
+use Rattle.ranking.specs.Arrays.{graph_in}
+use Rattle.ranking.proofs.GraphArrays.{no_span, span_at, lent_count, lent_lower, lent_upper}
 use Rattle.order.specs.Graph.{StGraph, size, lower, upper, lines_at}
 use Rattle.order.specs.RankedGraphs.{Ranked}
-use Rattle.ordering.specs.Numbers.{rank_numbers}
-use Rattle.ranking.proofs.LineRanks.{rank_at}
 use Rattle.layout.specs.Columns.{line_between, bottom_line, top_line, by_rank, by_column, outgoing, incoming}
 use Rattle.layout.specs.Points.{bottom_rows, top_rows}
-use Rattle.incidence.specs.Incidents.{at}
-use Rattle.ranking.proofs.GraphArrays.{rank_read}
 use Rattle.layout.proofs.EndLines.{lines_at_e, set_apart, between_ends, bottom_ends, bottom_some, top_ends, top_some}
 use Rattle.layout.proofs.Step.{outgoing_i, length_outgoing, incoming_i, length_incoming}
 use Rattle.layout.proofs.ExtraRows.{bottom_place, top_place}
-
--- the lines from rank j to rank k, by a test on the ranks of their two parts
-abbrev pub goes_between : (ℕ → ℕ) → (ℕ → ℕ) → ℕ → ℕ → ℕ → Bool
-goes_between lower upper j k i = eqb (lower i) j && eqb (upper i) k
-
--- what a test of the ranks that arrays hold tells of it
-pub goes_read :
-    (m : ℕ) (lowers uppers : List Rank) (i j k : ℕ) {r b : Bool} → i < m → r ≡ (eqb (rank_at lowers i) j && eqb (rank_at uppers i) k) → r ≡ b
-    → goes_between (at (take m (rank_numbers lowers))) (at (take m (rank_numbers uppers))) j k i ≡ b
-goes_read m lowers uppers i j k h e q = sym (ap₂ (λ (a b : ℕ). eqb a j && eqb b k) (rank_read m lowers i h) (rank_read m uppers i h)) ∙ sym e ∙ q
 
 -- The sorted lines at rank k, where x is a line at rank r, or none, and is set apart where rank r has four
 module _ (m : ℕ) (key rank : ℕ → ℕ) (r x : ℕ) (there : x < m → rank x ≡ r) (k : ℕ) where
@@ -90,12 +80,30 @@ fourth l x m n e b f g = go (ℕ_discrete n 4)
     go (yes q) = let t = f q in ap (λ (j : ℕ). get_or l j m) (sym t.1) ∙ get_d_index_of l m t.0
     go (no q) = get_or-eq_default l m {n = 3} (omega arith) ∙ sym (g q)
 
-module _ (G : StGraph) where
-  pub between_found :
-      {m r : ℕ} (j k : ℕ) {f : Found} → m ≡ size G → f ≡ seek (goes_between (lower G) (upper G) j k) 0 m → r ≡ place_or m f → r ≡ line_between G j k
-  unfolding line_between
-  between_found j k e q s = s ∙ rw (q, e)
+-- a search along the cables of a graph finds the lowest line from one rank to another
+pub between_found :
+    (g : Graph) (j k : ℕ) {cables : List Span} {f : Option ℕ} {r : ℕ} → cables ≡ take g.cables g.spans → r ≡ unwrap_or f (length cables)
+    → f ≡ seek (λ i. eqb (get_or cables i no_span).lower.0 j && eqb (get_or cables i no_span).upper.0 k) 0 (length cables) → r ≡ line_between (graph_in g) j k
+unfolding line_between
+between_found g j k {cables} {f} {r} e q s = q ∙ ap₂ unwrap_or (s ∙ found) count ∙ same (seek (λ i. eqb (lower G i) j && eqb (upper G i) k) 0 (size G))
+  where
+    G : StGraph
+    G = graph_in g
 
+    count : length cables ≡ size G
+    count = ap length e ∙ lent_count g
+
+    found : seek (λ i. eqb (span_at cables i).lower.0 j && eqb (span_at cables i).upper.0 k) 0 (length cables) ≡ seek (λ i. eqb (lower G i) j && eqb (upper G i) k) 0 (size G)
+    found =
+        rw (e, lent_count g)
+        (seek_same _ _ 0 (size G)
+        (λ i l h. ap₂ (λ (a b : ℕ). eqb a j && eqb b k) (lent_lower g i (omega arith)) (lent_upper g i (omega arith))))
+
+    same : (o : Option ℕ) → unwrap_or o (size G) ≡ place_or (size G) o
+    same None = refl
+    same (Some i) = refl
+
+module _ (G : StGraph) where
   pub outgoing_few : (k : ℕ) → (length (lines_at (size G) (lower G) k) ≡ 4 → ⊥) → outgoing G k ≡ by_rank G k
   unfolding outgoing by_rank bottom_line
   outgoing_few k n = apart_few (size G) (upper G) (lower G) 0 (line_between G 0 1) (λ h. (between_ends G 0 1 h).0) k n

@@ -1,5 +1,6 @@
 -- The lines at a rank, the lowest line from one rank to another, and the lines at the bottom and at the top connection: the laws of the
 -- definitions that name these, from which all else follows. Assumes nothing.
+use Rattle.std.specs.Prelude.{Some, None}
 use Prim.Native.Nat.{ℕ, ◌-◌, ◌<◌, ◌≤◌}
 use native.Mathlib.Omega.{arith}
 use native.Mathlib.Decide.{dec_lt}
@@ -10,11 +11,10 @@ use mathlib.Core.List.{Memᴰ}
 use lib.ListN.{length}
 use lib.Dec.{eqb}
 use borrow.Author.Tests.{eqb-true, eq-eqb}
-use Rattle.lists.specs.declared.Found.TheVariants.{At, Nothing}
 use Rattle.lists.specs.Search.{seek, place_or}
 use Rattle.lists.specs.Select.{range}
 use Rattle.lists.proofs.Bools.{and_e, and_i}
-use Rattle.lists.proofs.Seek.{First, None, seek_cases}
+use Rattle.lists.proofs.Seek.{First, NoneOf, seek_cases}
 use Rattle.lists.proofs.Select.{get_d_mem, filter_e, filter_i, range_e, range_i, Distinct, distinct_range, distinct_filter}
 use Rattle.order.specs.Graph.{StGraph, size, lower, upper, lines_at}
 use Rattle.order.specs.RankedGraphs.{Ranked}
@@ -58,7 +58,7 @@ module _ (G : StGraph) where
       line : ℕ
       line = place_or (size G) (seek test 0 (size G))
 
-      go : ((x : ℕ) × (seek test 0 (size G) ≡ At x) × First test 0 (size G) x) ⊎ ((seek test 0 (size G) ≡ Nothing) × None test 0 (size G))
+      go : ((x : ℕ) × (seek test 0 (size G) ≡ Some x) × First test 0 (size G) x) ⊎ ((seek test 0 (size G) ≡ None) × NoneOf test 0 (size G))
           → ((line < size G) × (lower G line ≡ j) × (upper G line ≡ k)) ⊎ ((line ≡ size G) × ((i : ℕ) → i < size G → lower G i ≡ j → upper G i ≡ k → ⊥))
       go (inl f) =
           let e : line ≡ f.0 = ap (place_or (size G)) f.1 in
@@ -90,7 +90,7 @@ module _ (G : StGraph) where
       below x e f (yes l) = absurd (false≢true (sym (f.none i (omega arith) l) ∙ passes))
       below x e f (no l) = omega arith
 
-      go : ((x : ℕ) × (seek test 0 (size G) ≡ At x) × First test 0 (size G) x) ⊎ ((seek test 0 (size G) ≡ Nothing) × None test 0 (size G))
+      go : ((x : ℕ) × (seek test 0 (size G) ≡ Some x) × First test 0 (size G) x) ⊎ ((seek test 0 (size G) ≡ None) × NoneOf test 0 (size G))
           → place_or (size G) (seek test 0 (size G)) ≤ i
       go (inl f) = below f.0 (ap (place_or (size G)) f.1) f.2 (dec_lt i f.0)
       go (inr f) = absurd (false≢true (sym (f.1 i (omega arith) (omega arith)) ∙ passes))

@@ -9,9 +9,12 @@ use mathlib.Core.List.{List, [], ◌∷◌, map, Memᴰ}
 use lib.Dec.{ltb}
 use lib.IntN.{pos}
 use lib.ListN.{length, get_or, set, take, replicate, length-set, length-replicate, get_or-replicate, get_or-eq_default}
-use lib.Seq.{get_or-set_same, get_or-set_other, get_or-take}
+use lib.Seq.{get_or-set_same, get_or-set_other}
 use lib.Ieee.{Float, nan}
+use Rattle.std.proofs.lemmas.List.{take-map}
 use borrow.Author.Tests.{lt-ltb, le-ltb}
+use Rattle.std.specs.List.{reduce}
+use Rattle.std.specs.Option.{unwrap_or}
 use Rattle.words.specs.declared.Part.{Part}
 use Rattle.words.specs.Limits.{most_parts}
 use Rattle.lists.specs.Select.{filter, tabulate}
@@ -26,23 +29,23 @@ use Rattle.order.proofs.Bipolar.{Orderable}
 use Rattle.order.proofs.Joins.{within, joined_within}
 use Rattle.order.proofs.Ranks.{rank_below, rank_of_part, rank_one}
 use Rattle.order.proofs.Passed.{list_orderable, list_ordering}
+use Rattle.reachability.specs.declared.adjacency.Neighbours.{Neighbours}
 use Rattle.reachability.specs.Tables.{Adjacent, neighbours_in}
 use Rattle.ordering.specs.Numbers.{part_numbers}
-use Rattle.ordering.proofs.PartsByRank.{part_number}
+use Rattle.ordering.proofs.Numbers.{part_number, numbers_length}
 use Rattle.levels.specs.declared.Levels.{Levels}
 use Rattle.levels.specs.declared.Sort.{Sort}
 use Rattle.levels.specs.Level.{sort_in}
 use Rattle.levels.specs.SignalPaths.{Extremes, only, lower_neighbours, extremes_of, levels_at}
 use Rattle.levels.specs.Outcome.{in_floats, level_floats}
-use Rattle.levels.specs.Readings.{both_behind, levels_of, RowFits}
+use Rattle.levels.specs.Readings.{both_behind, levels_of, together, RowFits}
 use Rattle.levels.proofs.Exact.{InRange}
 use Rattle.levels.proofs.Extremes.{Both, extremes_all}
 use Rattle.levels.proofs.SignalPaths.{lower_e}
 use Rattle.levels.proofs.LeastGreatest.{levels_step}
 use Rattle.levels.proofs.Bounds.{levels_range}
 use Rattle.levels.proofs.Floats.{both_behind_exact}
-use Rattle.levelling.specs.declared.arrivals.Arrivals.TheVariants.{NoRoute}
-use Rattle.levelling.specs.Pass.{levels_in, all_arriving, or_zero, incoming, Readable}
+use Rattle.levelling.specs.Pass.{levels_in, incoming, Readable}
 use Rattle.levelling.proofs.Arriving.{arriving_exact}
 
 -- ---- a row of pairs
@@ -89,12 +92,12 @@ all_pairs (e ∷ es) d (x ∷ y ∷ row) l h =
 -- ---- the pass
 
 -- It has been at the parts of rank below k: they are flagged, and the row has their levels.
-pub record Passing (list sorts : List ℕ) (n : ℕ) (table : List ℕ) (part : List Part) (row : List Float) (flags : List Bool) (k : ℕ) : Type 0 where
+pub record Passing (list sorts : List ℕ) (table : List Neighbours) (part : List Part) (row : List Float) (flags : List Bool) (k : ℕ) : Type 0 where
   pub pass : Clear all_checks list
   pub fits : RowFits (station_of list).parts sorts
-  pub count : n ≡ (station_of list).parts
+  pub many : length part ≡ (station_of list).parts
   pub adjacent : Adjacent list table
-  pub order_is : take (station_of list).parts (part_numbers part) ≡ order (station_of list)
+  pub order_is : part_numbers part ≡ order (station_of list)
   pub place : k ≤ (station_of list).parts
   pub wide : length flags ≡ most_parts
   pub long : length row ≡ 2 * (station_of list).parts
@@ -109,16 +112,18 @@ no_flag m q = go (dec_lt q m)
     go (yes h) = get_or-replicate m q false false h
     go (no h) = get_or-eq_default (replicate m false) false (omega (arith, length-replicate m false))
 
-pub passing_start : {list sorts table : List ℕ} {n : ℕ} {part : List Part} {row : List Float} → Clear all_checks list → RowFits (station_of list).parts sorts → n ≡ (station_of list).parts
+pub passing_start : {list sorts : List ℕ} {table : List Neighbours} {n : ℕ} (part : List Part) {row : List Float} → Clear all_checks list → RowFits (station_of list).parts sorts → n ≡ (station_of list).parts
     → Adjacent list table → take (station_of list).parts (part_numbers part) ≡ order (station_of list) → length row ≡ 2 * (station_of list).parts
-    → Passing list sorts n table part row (replicate most_parts false) 0
-passing_start {list} C F e A o l =
+    → Passing list sorts table (take n part) row (replicate most_parts false) 0
+unfolding part_numbers
+passing_start {list} {n = n} part C F e A o l =
+    let f : part_numbers (take n part) ≡ order (station_of list) = sym (take-map (λ (p : Part). p.0) n part) ∙ ap (λ (k : ℕ). take k (part_numbers part)) e ∙ o in
     record {
       pass = C;
       fits = F;
-      count = e;
+      many = sym (numbers_length (take n part)) ∙ ap length f ∙ (list_ordering list C).all;
       adjacent = A;
-      order_is = o;
+      order_is = f;
       place = omega arith;
       wide = length-replicate most_parts false;
       long = l;
@@ -127,7 +132,7 @@ passing_start {list} C F e A o l =
       levels = λ q h g. absurd (omega arith);
     }
 
-module _ {list sorts table : List ℕ} {n : ℕ} {part : List Part} {row : List Float} {flags : List Bool} {k : ℕ} (P : Passing list sorts n table part row flags k) where
+module _ {list sorts : List ℕ} {table : List Neighbours} {part : List Part} {row : List Float} {flags : List Bool} {k : ℕ} (P : Passing list sorts table part row flags k) where
   abbrev st : Station
   st = station_of list
 
@@ -149,21 +154,18 @@ module _ {list sorts table : List ℕ} {n : ℕ} {part : List Part} {row : List 
       go (yes h) = omega (arith, P.long)
       go (no h) = absurd (clash (get_or flags q false) e (P.others q (omega arith)))
 
-  module _ (h : k < n) where
+  module _ (h : k < length part) where
     -- the part of rank k
     abbrev p : ℕ
     p = (get_or part k (record { 0 = 0 })).0
 
     part_is : p ≡ get_or (order st) k 0
-    part_is = part_number part k ∙ sym (get_or-take st.parts (part_numbers part) k 0 (omega (arith, P.count))) ∙ ap (λ (l : List ℕ). get_or l k 0) P.order_is
+    part_is = part_number part k ∙ ap (λ (l : List ℕ). get_or l k 0) P.order_is
 
     pub passing_part : p < st.parts
-    passing_part = subst (λ (x : ℕ). x < st.parts) (sym part_is) ((list_ordering list P.pass).inside k (omega (arith, P.count)))
+    passing_part = subst (λ (x : ℕ). x < st.parts) (sym part_is) ((list_ordering list P.pass).inside k (omega (arith, P.many)))
 
     -- places that are looked at
-    pub passing_rank : k < most_parts
-    passing_rank = omega (arith, P.count, H.wired.most)
-
     pub passing_most : p < most_parts
     passing_most = omega (arith, passing_part, H.wired.most)
 
@@ -174,7 +176,7 @@ module _ {list sorts table : List ℕ} {n : ℕ} {part : List Part} {row : List 
     passing_pair = omega (arith, passing_part, P.long)
 
     rank_is : rank p ≡ k
-    rank_is = ap (λ (x : ℕ). rank x) part_is ∙ rank_of_part st H k (omega (arith, P.count))
+    rank_is = ap (λ (x : ℕ). rank x) part_is ∙ rank_of_part st H k (omega (arith, P.many))
 
     -- its flagged neighbours are those that a cable climbs from
     flagged_lower : filter (λ q. get_or flags q false) (neighbours_in table p) ≡ lower_neighbours (order st) st.cables p
@@ -195,7 +197,7 @@ module _ {list sorts table : List ℕ} {n : ℕ} {part : List Part} {row : List 
     incoming_exact : incoming table flags row p ≡ levels_of from
     unfolding incoming
     incoming_exact =
-        ap (λ (l : List ℕ). or_zero (all_arriving NoRoute (map (levels_in row) l))) flagged_lower
+        ap (λ (l : List ℕ). unwrap_or (reduce together (map (levels_in row) l)) (levels_of (only (pos 0)))) flagged_lower
         ∙ arriving_exact (levels_in row) (levels_at st sorts) (lower_neighbours (order st) st.cables p)
         (λ q m. levels_range st H sorts P.fits q (lower_inside q m).0) (λ q m. P.levels q (lower_inside q m).0 (lower_inside q m).1)
 
@@ -214,15 +216,15 @@ module _ {list sorts table : List ℕ} {n : ℕ} {part : List Part} {row : List 
         ∙ ap levels_of (sym (levels_step st H sorts p passing_part))
 
     pub passing_next : {before next : Levels} {sort : Sort} → before ≡ incoming table flags row p → sort ≡ sort_in (get_or sorts p 0) → next ≡ both_behind before sort
-        → Passing list sorts n table part (with_pair row p next) (set flags p true) (k + 1)
+        → Passing list sorts table part (with_pair row p next) (set flags p true) (k + 1)
     passing_next {before} {next} {sort} b s e =
         record {
           pass = P.pass;
           fits = P.fits;
-          count = P.count;
+          many = P.many;
           adjacent = P.adjacent;
           order_is = P.order_is;
-          place = omega (arith, P.count);
+          place = omega (arith, P.many);
           wide = length-set flags p true ∙ P.wide;
           long = pair_long row p next ∙ P.long;
           flagged = λ q g. flag q g (ℕ_discrete q p);
@@ -260,10 +262,10 @@ module _ {list sorts table : List ℕ} {n : ℕ} {part : List Part} {row : List 
             before_k (yes f) = absurd (d (rank_one st H q p g passing_part (f ∙ sym rank_is)))
             before_k (no f) = omega arith
 
-  pub passing_end : n ≤ k → row ≡ level_floats st sorts
+  pub passing_end : length part ≤ k → row ≡ level_floats st sorts
   unfolding level_floats
   passing_end g =
       all_pairs (tabulate st.parts (levels_at st sorts)) (only (pos 0)) row (omega (arith, P.long, length_tabulate st.parts (levels_at st sorts)))
       (λ q h.
       let i : q < st.parts = omega (arith, length_tabulate st.parts (levels_at st sorts)) in
-      P.levels q i (omega (arith, rank_below st H q i, P.count)) ∙ ap levels_of (sym (get_d_tabulate st.parts (levels_at st sorts) q (only (pos 0)) i)))
+      P.levels q i (omega (arith, rank_below st H q i, P.many)) ∙ ap levels_of (sym (get_d_tabulate st.parts (levels_at st sorts) q (only (pos 0)) i)))

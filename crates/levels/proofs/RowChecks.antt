@@ -1,4 +1,6 @@
 -- Checks 17 and 18 of a row beside a list, step by step, and what a pass leaves of the row. Assumes nothing.
+use Rattle.checks.specs.declared.Fault.{Fault}
+use Rattle.std.specs.Prelude.{Some, None}
 use Prim.Native.Nat.{ℕ}
 use native.Mathlib.Omega.{arith}
 use mathlib.Core.Path.{◌≡◌, refl, sym}
@@ -8,12 +10,11 @@ use mathlib.Core.List.{List}
 use lib.ListN.{length, get_or}
 use lib.Dec.{eqb, ltb}
 use borrow.Author.Tests.{eq-eqb, ne_eqb, eqb-true, ltb-false}
-use Rattle.lists.specs.declared.Found.TheVariants.{At, Nothing}
 use Rattle.lists.proofs.Bools.{or_fails}
 use Rattle.lists.proofs.Seek.{seek_nothing}
 use Rattle.words.specs.Words.{sort_of, steps_of, joint_sort}
-use Rattle.checks.specs.declared.Verdict.TheVariants.{Passed, Refused}
-use Rattle.checks.specs.Checks.{first_refusal, or_else, Clear, at_when}
+use Rattle.checks.specs.declared.Fault.TheVariants as faults
+use Rattle.checks.specs.Checks.{first_refusal, or_else, Clear, at_when, passed, refused}
 use Rattle.checks.proofs.FirstRefusal.{clear_each, clear_prefix, clear_rest, refused_before, rest_decides, at_when_nothing}
 use Rattle.station.specs.Station.{station_of}
 use Rattle.order.specs.Checks.{all_checks}
@@ -22,26 +23,26 @@ use Rattle.levels.specs.Outcome.{level_checks}
 use Rattle.levels.specs.Readings.{RowFits}
 
 module _ (list row : List ℕ) where
-  pub sorts_17 : (p : ℕ) → check17 row ≡ At p → first_refusal (sort_checks row) list ≡ Refused 17 p
+  pub sorts_17 : (p : ℕ) → check17 row ≡ Some p → first_refusal (sort_checks row) list ≡ refused faults.MisformedSort p
   unfolding sort_checks first_refusal or_else
   sorts_17 p e = rw e
 
-  module _ (formed : check17 row ≡ Nothing) where
-    pub sorts_count : (n : ℕ) → n ≡ (station_of list).parts → (length row ≡ n → ⊥) → first_refusal (sort_checks row) list ≡ Refused 17 n
+  module _ (formed : check17 row ≡ None) where
+    pub sorts_count : (n : ℕ) → n ≡ (station_of list).parts → (length row ≡ n → ⊥) → first_refusal (sort_checks row) list ≡ refused faults.MisformedSort n
     unfolding sort_checks first_refusal or_else check17_count at_when
     sorts_count n e h = rw (formed, sym e, ne_eqb (length row) n h)
 
     module _ (words : length row ≡ (station_of list).parts) where
-      pub sorts_18 : (p : ℕ) → check18 row ≡ At p → first_refusal (sort_checks row) list ≡ Refused 18 p
+      pub sorts_18 : (p : ℕ) → check18 row ≡ Some p → first_refusal (sort_checks row) list ≡ refused faults.MisnumberedSort p
       unfolding sort_checks first_refusal or_else check17_count at_when
       sorts_18 p e = rw (formed, eq-eqb (length row) (station_of list).parts words, e)
 
-      pub sorts_clear : check18 row ≡ Nothing → first_refusal (sort_checks row) list ≡ Passed
+      pub sorts_clear : check18 row ≡ None → first_refusal (sort_checks row) list ≡ passed
       unfolding sort_checks first_refusal or_else check17_count at_when
       sorts_clear e = rw (formed, eq-eqb (length row) (station_of list).parts words, e)
 
   -- behind checks 1 to 10
-  pub levels_10 : (c p : ℕ) → first_refusal all_checks list ≡ Refused c p → first_refusal (level_checks row) list ≡ Refused c p
+  pub levels_10 : (c : Fault) (p : ℕ) → first_refusal all_checks list ≡ refused c p → first_refusal (level_checks row) list ≡ refused c p
   unfolding level_checks
   levels_10 c p e = refused_before list all_checks (sort_checks row) c p e
 

@@ -1,4 +1,5 @@
 -- Lists of one station (2026-13) get the same answer: routes rest on which parts are joined and on their order. Assumes nothing.
+use Rattle.std.specs.Prelude.{Ok, Err}
 use Prim.Native.Nat.{ℕ, ◌<◌}
 use mathlib.Core.Path.{◌≡◌, refl, sym, ap, ap₂, ◌∙◌, subst}
 use mathlib.Core.List.{List}
@@ -7,9 +8,7 @@ use lib.ListN.{length}
 use lib.Ieee.{Float}
 use Rattle.lists.specs.Select.{tabulate}
 use Rattle.lists.proofs.Agree.{tabulate_same}
-use Rattle.checks.specs.declared.Verdict.{Verdict}
-use Rattle.checks.specs.declared.Verdict.TheVariants as verdict
-use Rattle.checks.specs.Checks.{first_refusal, Clear}
+use Rattle.checks.specs.Checks.{first_refusal, Clear, Verdict}
 use Rattle.checks.specs.Outcome.{Outcome, fitted, if_passed}
 use Rattle.station.specs.Station.{Station, station_of}
 use Rattle.station.specs.Checks.{list_checks}
@@ -79,9 +78,9 @@ module _ (l k : List ℕ) (same : canonical l ≡ canonical k) where
       go :
           (v : Verdict) → first_refusal all_checks l ≡ v
           → if_passed (first_refusal (level_checks row) l) (outcome (level_floats (station_of l) row)) ≡ if_passed (first_refusal (level_checks row) k) (outcome (level_floats (station_of k) row))
-      go (verdict.Refused c p) e =
-          verdict_refused (outcome (level_floats (station_of l) row)) (levels_10 l row c p e)
-          ∙ sym (verdict_refused (outcome (level_floats (station_of k) row)) (levels_10 k row c p (sym both ∙ e)))
-      go verdict.Passed e =
+      go (Err r) e =
+          verdict_refused (outcome (level_floats (station_of l) row)) (levels_10 l row r.fault r.place e)
+          ∙ sym (verdict_refused (outcome (level_floats (station_of k) row)) (levels_10 k row r.fault r.place (sym both ∙ e)))
+      go (Ok u) e =
           ap₂ (λ (v : Verdict) (floats : List Float). if_passed v (outcome floats))
           (levels_rest l row e ∙ sorts_same row ∙ sym (levels_rest k row (sym both ∙ e))) (same_floats e (sym both ∙ e) row)

@@ -3,6 +3,7 @@
 use Prim.Native.Nat.{ℕ}
 use mathlib.Core.Path.{◌≡◌, refl}
 use mathlib.Core.List.{List, [], ◌∷◌}
+use Rattle.checks.specs.declared.Fault.TheVariants as faults
 use Rattle.checks.specs.Outcome.{written, sent_back}
 use Rattle.levels.specs.Outcome.{levels_outcome}
 use Rattle.levels.specs.Readings.{in_bits}
@@ -39,24 +40,24 @@ record Table : Type 0 where
       in_bits (levels_outcome chain (0x92001900 ∷ 0x91001900 ∷ 0x91001900 ∷ []) 6)
       ≡ written (0x42c80000 ∷ 0x42c80000 ∷ 0 ∷ 0 ∷ 0xc2c80000 ∷ 0xc2c80000 ∷ []) 6
   -- above it, and a joint with a number
-  eighteen : levels_outcome triangle (0x90000000 ∷ 0x92001901 ∷ 0x91001901 ∷ []) 6 ≡ sent_back 18 1
-  eighteen_joint : levels_outcome triangle (0x90000000 ∷ 0x92001900 ∷ 0x90000001 ∷ []) 6 ≡ sent_back 18 2
+  eighteen : levels_outcome triangle (0x90000000 ∷ 0x92001901 ∷ 0x91001901 ∷ []) 6 ≡ sent_back faults.MisnumberedSort 1
+  eighteen_joint : levels_outcome triangle (0x90000000 ∷ 0x92001900 ∷ 0x90000001 ∷ []) 6 ≡ sent_back faults.MisnumberedSort 2
   -- a wrong sort, kind, spare bit
-  seventeen_sort : levels_outcome triangle (0x90000000 ∷ 0x93000000 ∷ 0x90000000 ∷ []) 6 ≡ sent_back 17 1
-  seventeen_kind : levels_outcome triangle (0x80000000 ∷ 0x93000000 ∷ 0x90000000 ∷ []) 6 ≡ sent_back 17 0
-  seventeen_spare : levels_outcome triangle (0x90000000 ∷ 0x90000000 ∷ 0x91010001 ∷ []) 6 ≡ sent_back 17 2
+  seventeen_sort : levels_outcome triangle (0x90000000 ∷ 0x93000000 ∷ 0x90000000 ∷ []) 6 ≡ sent_back faults.MisformedSort 1
+  seventeen_kind : levels_outcome triangle (0x80000000 ∷ 0x93000000 ∷ 0x90000000 ∷ []) 6 ≡ sent_back faults.MisformedSort 0
+  seventeen_spare : levels_outcome triangle (0x90000000 ∷ 0x90000000 ∷ 0x91010001 ∷ []) 6 ≡ sent_back faults.MisformedSort 2
   -- words other than n: n, unless a word is wrong too, also behind the n-th
-  seventeen_more : levels_outcome triangle (0x90000000 ∷ 0x90000000 ∷ 0x90000000 ∷ 0x90000000 ∷ []) 6 ≡ sent_back 17 3
-  seventeen_less : levels_outcome triangle (0x90000000 ∷ 0x90000000 ∷ []) 6 ≡ sent_back 17 3
-  seventeen_none : levels_outcome triangle [] 6 ≡ sent_back 17 3
-  seventeen_behind : levels_outcome triangle (0x90000000 ∷ 0x90000000 ∷ 0x90000000 ∷ 0x90000000 ∷ 0 ∷ []) 6 ≡ sent_back 17 4
+  seventeen_more : levels_outcome triangle (0x90000000 ∷ 0x90000000 ∷ 0x90000000 ∷ 0x90000000 ∷ []) 6 ≡ sent_back faults.MisformedSort 3
+  seventeen_less : levels_outcome triangle (0x90000000 ∷ 0x90000000 ∷ []) 6 ≡ sent_back faults.MisformedSort 3
+  seventeen_none : levels_outcome triangle [] 6 ≡ sent_back faults.MisformedSort 3
+  seventeen_behind : levels_outcome triangle (0x90000000 ∷ 0x90000000 ∷ 0x90000000 ∷ 0x90000000 ∷ 0 ∷ []) 6 ≡ sent_back faults.MisformedSort 4
   -- 17 is done before 18, 18 before 11, and 10 before all
-  seventeen_first : levels_outcome triangle (0x90000001 ∷ 0x92001901 ∷ 0x93000000 ∷ []) 0 ≡ sent_back 17 2
-  seventeen_count_first : levels_outcome triangle (0x90000001 ∷ 0x90000000 ∷ 0x90000000 ∷ 0x90000000 ∷ []) 0 ≡ sent_back 17 3
-  eighteen_first : levels_outcome triangle (0x90000000 ∷ 0x90000000 ∷ 0x90000001 ∷ []) 0 ≡ sent_back 18 2
-  ten_first : levels_outcome (0x10030002 ∷ 0x20000001 ∷ 0x30000001 ∷ 0x30001002 ∷ []) (0 ∷ []) 0 ≡ sent_back 10 1
+  seventeen_first : levels_outcome triangle (0x90000001 ∷ 0x92001901 ∷ 0x93000000 ∷ []) 0 ≡ sent_back faults.MisformedSort 2
+  seventeen_count_first : levels_outcome triangle (0x90000001 ∷ 0x90000000 ∷ 0x90000000 ∷ 0x90000000 ∷ []) 0 ≡ sent_back faults.MisformedSort 3
+  eighteen_first : levels_outcome triangle (0x90000000 ∷ 0x90000000 ∷ 0x90000001 ∷ []) 0 ≡ sent_back faults.MisnumberedSort 2
+  ten_first : levels_outcome (0x10030002 ∷ 0x20000001 ∷ 0x30000001 ∷ 0x30001002 ∷ []) (0 ∷ []) 0 ≡ sent_back faults.SeparatingPart 1
   -- one float too few
-  short : levels_outcome triangle (0x90000000 ∷ 0x91000280 ∷ 0x92000500 ∷ []) 5 ≡ sent_back 11 6
+  short : levels_outcome triangle (0x90000000 ∷ 0x91000280 ∷ 0x92000500 ∷ []) 5 ≡ sent_back faults.OutputTooShort 6
 
 table : Table
 unfolding levels_computing triangle station_c_lem chain

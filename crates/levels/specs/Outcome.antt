@@ -1,13 +1,12 @@
 -- Request 2026-08: what the call answers for a list, a second row and a length of output, and what it leaves there. Assumes nothing.
-use Rattle.std.specs.Prelude.{ℕ, ◌+◌, ◌*◌, ◌<◌, ◌≡◌, List, [], ◌∷◌, ◌++◌, length, get_or, Float}
+use Rattle.checks.specs.declared.Refusal.{Refusal}
+use Rattle.std.specs.Prelude.{ℕ, ◌+◌, ◌*◌, ◌<◌, ◌≡◌, List, [], ◌∷◌, ◌++◌, length, get_or, Float, Ok, Result}
 use Rattle.std.specs.Float.{nan}
 use Rattle.lists.specs.Select.{tabulate}
-use Rattle.checks.specs.Checks.{Check, first_refusal}
+use Rattle.checks.specs.Checks.{Check, first_refusal, refused}
 use Rattle.checks.specs.Outcome.{Outcome, written, sent_back, fitted, if_passed, row_after}
 use Rattle.station.specs.Station.{Station, station_of}
 use Rattle.order.specs.Checks.{all_checks}
-use Rattle.levels.specs.declared.Levelled.{Levelled}
-use Rattle.levels.specs.declared.Levelled.TheVariants.{Written, Refused}
 use Rattle.levels.specs.Level.{level_of}
 use Rattle.levels.specs.Sorts.{sort_checks}
 use Rattle.levels.specs.SignalPaths.{Extremes, levels_at}
@@ -33,15 +32,19 @@ levels_outcome list row room =
     let floats = level_floats (station_of list) row in
     if_passed (first_refusal (level_checks row) list) (fitted floats (length floats) room)
 
+-- a success returns the count of floats written; a refusal 'returns its number and one place'
+abbrev pub Levelled : Type 0
+Levelled = Result ℕ Refusal
+
 -- the answer that an outcome asks for
 abbrev pub answer_to : Outcome Float ℕ → Levelled
-answer_to (written floats count) = Written count
-answer_to (sent_back check place) = Refused check place
+answer_to (written floats count) = Ok count
+answer_to (sent_back check place) = refused check place
 
 -- A call on a list and a second row, with what stood in the output before and after: 'What lies behind them is left as found', and so is
 -- all of it after a refusal. After a success the two floats of each part are as promised.
 pub record FindsLevels (list row : List ℕ) (before after : List Float) (answer : Levelled) : Type 0 where
   pub answers : answer ≡ answer_to (levels_outcome list row (length before))
   pub output : after ≡ row_after (levels_outcome list row (length before)) before
-  pub levels : (floats : ℕ) → answer ≡ Written floats → (p : ℕ) → p < (station_of list).parts
+  pub levels : (floats : ℕ) → answer ≡ Ok floats → (p : ℕ) → p < (station_of list).parts
       → LevelsAt (station_of list) row p (get_or after (2 * p) nan) (get_or after (2 * p + 1) nan)

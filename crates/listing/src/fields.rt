@@ -24,7 +24,7 @@ pub fn cable_count(list: &[u32]) -> usize
     list.len() - 2
 }
 
-// s, the source.
+// s, the source. A function for each of the ends and of a cable's parts, since callers name the one that they mean.
 pub fn source(list: &[u32]) -> Part
     requires { 2 ≤ length list.now }
     ensures { result.0 ≡ (station_of list.now).source }
@@ -62,13 +62,11 @@ pub fn cables_per_part(list: &[u32]) -> [u16; MOST_PARTS]
     ensures { (p : ℕ) → p < most_parts → get_or result p 0 ≡ degree (station_of list.now).cables p }
 {
     let mut counts = [0u16; MOST_PARTS];
-    let mut i = 2;
-    while i < list.len() {
+    for i in 2..list.len() {
         let a = Word(list[i]).first() as usize;
         let b = Word(list[i]).second() as usize;
         counts[a] += 1;
         counts[b] += 1;
-        i += 1;
     }
     counts
 }

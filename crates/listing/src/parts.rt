@@ -3,33 +3,23 @@ ghost use Rattle.std.specs.Prelude.{◌≡◌, ◌<◌, length, eqb};
 ghost use Rattle.words.specs.Words.{first_of, second_of};
 ghost use Rattle.station.specs.Checks.{outside, check5, check6};
 
-use lists::Found;
 use words::Word;
 
 // A part number of the word is n or more.
+#[tactic(auto, unfolding(station::specs::Checks::outside))]
 fn is_outside(n: u16, w: u32) -> bool
     ensures { result ≡ outside n w }
 {
-    if n <= Word(w).first() {
-        return true;
-    }
-    n <= Word(w).second()
+    n <= Word(w).first() || n <= Word(w).second()
 }
 
 // 5: 'a part number n or more', 'first such word'.
-pub fn outside_word(list: &[u32]) -> Found
+pub fn outside_word(list: &[u32]) -> Option<usize>
     requires { 0 < length list.now }
     ensures { result ≡ check5 list.now }
 {
     let n = Word(list[0]).parts();
-    let mut i = 1;
-    while i < list.len() {
-        if is_outside(n, list[i]) {
-            return Found::At(i);
-        }
-        i += 1;
-    }
-    Found::Nothing
+    (1..list.len()).find(|&i| is_outside(n, list[i]))
 }
 
 // The word names one part twice.
@@ -40,16 +30,9 @@ fn is_loop(w: u32) -> bool
 }
 
 // 6: 's equals t, or a cable joins a part to itself', 'first such word'.
-pub fn loop_word(list: &[u32]) -> Found
+pub fn loop_word(list: &[u32]) -> Option<usize>
     requires { 0 < length list.now }
     ensures { result ≡ check6 list.now }
 {
-    let mut i = 1;
-    while i < list.len() {
-        if is_loop(list[i]) {
-            return Found::At(i);
-        }
-        i += 1;
-    }
-    Found::Nothing
+    (1..list.len()).find(|&i| is_loop(list[i]))
 }

@@ -1,5 +1,6 @@
 -- Laws of selection: two tests one after the other are both at once, tests that agree select the same and as many, and a search finds the
 -- first selected. Assumes nothing.
+use Rattle.std.specs.Prelude.{Option, Some, None}
 use Prim.Native.Nat.{ℕ, zero, suc, ◌+◌, ◌<◌, ◌≤◌}
 use native.Mathlib.Omega.{arith}
 use native.Mathlib.Numerals.{add-one}
@@ -11,8 +12,6 @@ use mathlib.Core.List.{List, [], ◌∷◌, Memᴰ}
 use lib.ListN.{length, get_or, drop, drop_of_length-le}
 use lib.Seq.{drop-cons}
 use borrow.Author.Tests.{ne_eqb}
-use Rattle.lists.specs.declared.Found.{Found}
-use Rattle.lists.specs.declared.Found.TheVariants.{At, Nothing}
 use Rattle.lists.specs.Search.{seek}
 use Rattle.lists.specs.Select.{up_from, any, cons_if, filter, one_if, count, without}
 use Rattle.lists.proofs.Select.{length_filter}
@@ -78,16 +77,16 @@ without_absent p (x ∷ xs) n = rw (ne_eqb p x (λ e. n (Memᴰ.head e))) (ap (�
 -- Searching and selecting
 
 -- what a list starts with
-unfoldable pub front : List ℕ → Found
-front [] = Nothing
-front (x ∷ xs) = At x
+unfoldable pub front : List ℕ → Option ℕ
+front [] = None
+front (x ∷ xs) = Some x
 
 pub seek_filter : (p : ℕ → Bool) (i k : ℕ) → seek p i k ≡ front (filter p (up_from i k))
 unfolding seek filter up_from front
 seek_filter p i zero = refl
 seek_filter p i (suc k) = go (p i) (seek_filter p (i + 1) k)
   where
-    go : (b : Bool) → seek p (i + 1) k ≡ front (filter p (up_from (i + 1) k)) → cond b (At i) (seek p (i + 1) k) ≡ front (cons_if b i (filter p (up_from (i + 1) k)))
+    go : (b : Bool) → seek p (i + 1) k ≡ front (filter p (up_from (i + 1) k)) → cond b (Some i) (seek p (i + 1) k) ≡ front (cons_if b i (filter p (up_from (i + 1) k)))
     go true e = refl
     go false e = e
 

@@ -29,3 +29,5 @@ pub mod Renamed
 pub mod Matching
 pub mod Pairs
 pub mod Computing
+pub mod Searches
+pub mod StdWords

@@ -1,9 +1,9 @@
 -- A search of the first n places as far as place i: what it finds from there on is what it finds. Assumes nothing.
+use Rattle.std.specs.Prelude.{Some, None}
 use Prim.Native.Nat.{ℕ, ◌+◌, ◌-◌, ◌<◌, ◌≤◌}
 use native.Mathlib.Omega.{arith}
 use mathlib.Core.Path.{◌≡◌, refl, sym, ◌∙◌}
 use mathlib.Core.Bool.{Bool, true, false}
-use Rattle.lists.specs.declared.Found.TheVariants.{At, Nothing}
 use Rattle.lists.specs.Search.{seek}
 use Rattle.lists.proofs.Search.{seek_at, seek_next, seek_end}
 
@@ -18,8 +18,8 @@ module _ {p : ℕ → Bool} {n i : ℕ} (S : Seeking p n i) where
   pub seeking_next : i < n → p i ≡ false → Seeking p n (i + 1)
   seeking_next h e = record { place = omega arith; rest = sym (seek_next p i n h e) ∙ S.rest }
 
-  pub seeking_at : i < n → p i ≡ true → At i ≡ seek p 0 n
+  pub seeking_at : i < n → p i ≡ true → Some i ≡ seek p 0 n
   seeking_at h e = sym (seek_at p i n h e) ∙ S.rest
 
-  pub seeking_end : n ≤ i → Nothing ≡ seek p 0 n
+  pub seeking_end : n ≤ i → None ≡ seek p 0 n
   seeking_end h = sym (seek_end p i n h) ∙ S.rest

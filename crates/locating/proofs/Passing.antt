@@ -1,14 +1,12 @@
 -- A line has a spot exactly if a walk along its corners comes to a run that has it. Assumes nothing.
-use Prim.Native.Nat.{ℕ, zero, suc, ◌+◌, ◌-◌, ◌<◌, ◌≤◌, min, max}
+use Prim.Native.Nat.{ℕ, zero, suc, ◌+◌, ◌-◌, ◌<◌, ◌≤◌}
 use native.Mathlib.Omega.{arith}
 use native.Mathlib.Numerals.{add-one}
 use mathlib.Core.Path.{◌≡◌, refl, sym, ap, ap₂, ◌∙◌}
-use mathlib.Core.Bool.{Bool, true, false, ◌&&◌, ◌||◌, or-false}
+use mathlib.Core.Bool.{Bool, true, false, ◌||◌, or-false}
 use mathlib.Core.List.{List, [], ◌∷◌, map}
 use lib.ListN.{length, get_or, drop, drop_of_length-le}
 use lib.Seq.{drop-cons}
-use lib.Dec.{leb}
-use borrow.Author.Tests.{le-leb, lt-leb}
 use Rattle.lists.specs.Select.{any, up_from, range}
 use Rattle.geometry.specs.Spots.{Spot}
 use Rattle.geometry.specs.Lines.{point}
@@ -16,25 +14,6 @@ use Rattle.geometry.specs.Crossing.{between}
 use Rattle.drawing.specs.Reading.{word_spot}
 use Rattle.validation.specs.Alone.{on_line}
 use Rattle.validation.specs.Facing.{line_over}
-
--- One run
-
-module _ (a b k : ℕ) where
-  pub within_low : (low high : ℕ) → low ≡ min a b → high ≡ max a b → low ≤ k → leb k high ≡ (leb (min a b) k && leb k (max a b))
-  within_low low high e f l = rw (← e, ← f, le-leb low k l)
-
-  pub within_not : (low : ℕ) → low ≡ min a b → k < low → leb low k ≡ (leb (min a b) k && leb k (max a b))
-  within_not low e l = rw (← e, lt-leb low k l)
-
-module _ (p q s : Spot) (across : Bool) (e : across ≡ (leb (min p.x q.x) s.x && leb s.x (max p.x q.x))) where
-  pub between_up :
-      (up : Bool) → up ≡ (leb (min p.y q.y) s.y && leb s.y (max p.y q.y)) → across ≡ true → up ≡ between p q s
-  unfolding between
-  between_up up f h = f ∙ rw (sym e ∙ h)
-
-  pub between_not : across ≡ false → across ≡ between p q s
-  unfolding between
-  between_not h = h ∙ rw (sym e ∙ h)
 
 -- A run before those of a line
 

@@ -7,8 +7,7 @@ use mathlib.Core.Bool.{Bool, true, false, true≢false}
 use mathlib.Core.List.{List}
 use lib.ListN.{length, get_or}
 use borrow.Author.Tests.{not-false}
-use Rattle.checks.specs.declared.Verdict.TheVariants.{Passed}
-use Rattle.checks.specs.Checks.{Clear}
+use Rattle.checks.specs.Checks.{Clear, passed}
 use Rattle.station.specs.Station.{Station, station_of}
 use Rattle.order.specs.Checks.{all_checks}
 use Rattle.geometry.specs.Spots.{Spot}
@@ -27,7 +26,7 @@ use Rattle.locating.specs.Code.{Readable}
 
 -- A sheet that passes
 
-module _ (list sheet : List ℕ) (pass : sheet_verdict list sheet ≡ Passed) where
+module _ (list sheet : List ℕ) (pass : sheet_verdict list sheet ≡ passed) where
   abbrev st : Station
   st = station_of list
 

@@ -1,7 +1,7 @@
 -- What the code that answers marks keeps and reads, in the terms of its definitions. Assumes nothing.
 use Rattle.std.specs.Prelude.{ℕ, ◌≤◌, ◌≡◌, Bool, List, length}
 use Rattle.words.specs.Limits.{most_field}
-use Rattle.checks.specs.declared.Verdict.TheVariants.{Passed}
+use Rattle.checks.specs.Checks as checks
 use Rattle.station.specs.Station.{station_of}
 use Rattle.validation.specs.Outcome.{sheet_verdict}
 use Rattle.sweep.specs.Judged.{Faced}
@@ -10,7 +10,7 @@ use Rattle.location.specs.declared.Hit.TheVariants.{Blank, Part, Cable, Crossing
 
 -- an accepted sheet, and a flag for the direction of each cable
 pub record Readable (list sheet : List ℕ) (forward : List Bool) : Type 0 where
-  pub passed : sheet_verdict list sheet ≡ Passed
+  pub passed : sheet_verdict list sheet ≡ checks.passed
   pub flags : length (station_of list).cables ≤ length forward
   pub faced : Faced (station_of list) sheet forward (length (station_of list).cables)
 

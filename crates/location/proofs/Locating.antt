@@ -1,5 +1,8 @@
 -- Each mark on an accepted sheet is answered as if alone, by what lies there, in numbers that a word holds; and which numbers the refusals
 -- have. Assumes nothing.
+use Rattle.checks.specs.declared.Fault.{Fault}
+use Rattle.checks.specs.declared.Fault.TheVariants as faults
+use Rattle.std.specs.Prelude.{Option, Some, None}
 use Prim.Native.Nat.{ℕ, ◌<◌}
 use native.Mathlib.Omega.{arith}
 use mathlib.Core.Path.{◌≡◌, refl, sym, ap, ◌∙◌, subst}
@@ -7,17 +10,14 @@ use mathlib.Core.Bool.{Bool}
 use mathlib.Core.Logic.{◌⊎◌, inl, inr}
 use mathlib.Core.List.{List, [], ◌∷◌, Memᴰ}
 use lib.ListN.{length, get_or, drop, get_or-append}
-use Rattle.lists.specs.declared.Found.{Found}
-use Rattle.lists.specs.declared.Found.TheVariants.{At, Nothing}
 use Rattle.lists.specs.Select.{filter, range}
 use Rattle.lists.proofs.Bools.{not_e}
 use Rattle.lists.proofs.Seek.{seek_found, seek_nothing}
 use Rattle.lists.proofs.Select.{get_d_map, filter_e, range_e}
 use Rattle.words.specs.Limits.{most_parts, most_cables}
-use Rattle.checks.specs.declared.Verdict.{Verdict}
-use Rattle.checks.specs.declared.Verdict.TheVariants as verdict
-use Rattle.checks.specs.Checks.{Clear}
+use Rattle.checks.specs.Checks.{Clear, Verdict, passed, refused}
 use Rattle.checks.specs.Outcome.{Outcome, sent_back, row_after}
+use Rattle.checks.proofs.FirstRefusal.{same_fault}
 use Rattle.station.specs.Station.{Station, station_of}
 use Rattle.order.specs.Checks.{all_checks}
 use Rattle.order.proofs.Passed.{list_wired, lines_most}
@@ -32,15 +32,13 @@ use Rattle.validation.proofs.Alone.{same_spot_i}
 use Rattle.validation.proofs.Accepting.{validates}
 use Rattle.location.specs.declared.Hit.{Hit}
 use Rattle.location.specs.declared.Hit.TheVariants.{Blank, Part, Cable, Crossing}
-use Rattle.location.specs.declared.Selected.TheVariants as own
-use Rattle.location.specs.declared.Bounded.TheVariants as box
 use Rattle.location.specs.Hits.{mark_spot, part_at, cables_at, named, part_or, hit_at, word_to, hit_words}
 use Rattle.location.specs.Lying.{NoPart, Lies}
 use Rattle.location.specs.Outcome.{locate_outcome, verdict_to, drawing_of, Locates, selected, bounded}
 use Rattle.location.proofs.Sharing.{filtered_lies}
 use Rattle.location.proofs.SameLine.{accepted_parts, accepted_routes, accepted_part, accepted_line}
 use Rattle.location.proofs.Answers.{hits_counted, mark_refuses_21, mark_refuses_22, mark_refuses_11, mark_passes, mark_passed}
-use Rattle.location.proofs.Answers.{MarkStep, many, refused, short, answered, mark_step}
+use Rattle.location.proofs.Answers.{MarkStep, many, sheet_refused, short, answered, mark_step}
 use Rattle.location.proofs.Answers.{selected_refuses_22, selected_refuses_23, selected_words, bounded_refuses_22, bounded_refuses_23}
 use Rattle.location.proofs.Answers.{bounded_box, CableStep, not_accepted_lem, no_line, chosen, cable_step}
 
@@ -57,7 +55,7 @@ module _ (list sheet : List ℕ) (pass : Clear all_checks list) (a : Accepted li
   here p = same_spot (spot_of d p) s
 
   -- where no part's spot is found to be it, there is none
-  none_there : part_at st.parts d s ≡ Nothing → NoPart (drawing_of a) s
+  none_there : part_at st.parts d s ≡ None → NoPart (drawing_of a) s
   unfolding part_at
   none_there e p l q =
       not_e (here p)
@@ -77,14 +75,14 @@ module _ (list sheet : List ℕ) (pass : Clear all_checks list) (a : Accepted li
   unfolding hit_at part_at
   hit_lies = go (part_at st.parts d s) refl
     where
-      go : (f : Found) → part_at st.parts d s ≡ f → Lies (drawing_of a) s (part_or f (named (cables_at st d s)))
-      go (At p) e =
+      go : (f : Option ℕ) → part_at st.parts d s ≡ f → Lies (drawing_of a) s (part_or f (named (cables_at st d s)))
+      go (Some p) e =
           let F = seek_found here 0 st.parts e in
           record {
             is_part = omega (arith, F.below, accepted_parts list sheet pass a);
             its_spot = accepted_part list sheet pass a p ∙ same_spot_e (spot_of d p) s F.passes;
           }
-      go Nothing e = cables_there (none_there e)
+      go None e = cables_there (none_there e)
 
 -- The numbers of an answer
 
@@ -113,11 +111,11 @@ hit_below list sheet pass s = go (part_at st.parts d s) refl
     test : ℕ → Bool
     test i = on_line (points_right st d i) s
 
-    go : (f : Found) → part_at st.parts d s ≡ f → Below (part_or f (named (cables_at st d s)))
-    go (At p) e =
+    go : (f : Option ℕ) → part_at st.parts d s ≡ f → Below (part_or f (named (cables_at st d s)))
+    go (Some p) e =
         let F = seek_found (λ p. same_spot (spot_of d p) s) 0 st.parts e in
         omega (arith, F.below, (list_wired list pass).most)
-    go Nothing e =
+    go None e =
         named_below (cables_at st d s) λ i m.
         let l = range_e (length st.cables) (filter_e test (range (length st.cables)) m).0 in
         omega (arith, lines_most list pass)
@@ -151,7 +149,7 @@ locates list sheet marks before after answer e o = record {
       (hit_at (station_of list) sheet s, at p k l, hit_lies list sheet (taken p).0 a s);
 }
   where
-    taken : answer ≡ verdict.Passed → Clear all_checks list × Accepted list sheet
+    taken : answer ≡ passed → Clear all_checks list × Accepted list sheet
     taken p =
         let r = mark_passed list sheet marks (length before) (sym e ∙ p) in
         (validates list sheet (sheet_verdict list sheet) refl).accepts r.1
@@ -160,7 +158,7 @@ locates list sheet marks before after answer e o = record {
     words = hit_words (station_of list) sheet marks
 
     at :
-        answer ≡ verdict.Passed → (k : ℕ) → k < length marks
+        answer ≡ passed → (k : ℕ) → k < length marks
         → get_or after k 0 ≡ word_to (hit_at (station_of list) sheet (mark_spot (get_or marks k 0)))
     at p k l =
         let r = mark_passed list sheet marks (length before) (sym e ∙ p) in
@@ -173,16 +171,16 @@ locates list sheet marks before after answer e o = record {
 
 -- of marks: 21, 22, and 11 for a row that is too short
 pub located_numbers :
-    (list sheet marks : List ℕ) (room check place : ℕ) → verdict_to (locate_outcome list sheet marks room) ≡ verdict.Refused check place
-    → (check ≡ 21) ⊎ (check ≡ 22) ⊎ (check ≡ 11)
+    (list sheet marks : List ℕ) (room : ℕ) (check : Fault) (place : ℕ) → verdict_to (locate_outcome list sheet marks room) ≡ refused check place
+    → (check ≡ faults.TooManyMarks) ⊎ (check ≡ faults.SheetRefused) ⊎ (check ≡ faults.OutputTooShort)
 located_numbers list sheet marks room check place h = go (mark_step list sheet marks room)
   where
-    number : {c p : ℕ} → locate_outcome list sheet marks room ≡ sent_back c p → check ≡ c
-    number {c} {p} e = let q = sym h ∙ ap verdict_to e in cc
+    number : {c : Fault} {p : ℕ} → locate_outcome list sheet marks room ≡ sent_back c p → check ≡ c
+    number e = same_fault (sym h ∙ ap verdict_to e)
 
-    go : MarkStep list sheet marks room → (check ≡ 21) ⊎ (check ≡ 22) ⊎ (check ≡ 11)
+    go : MarkStep list sheet marks room → (check ≡ faults.TooManyMarks) ⊎ (check ≡ faults.SheetRefused) ⊎ (check ≡ faults.OutputTooShort)
     go (many l) = inl (number (mark_refuses_21 list sheet marks room l))
-    go (refused l c p e) = inr (inl (number (mark_refuses_22 list sheet marks room l c p e)))
+    go (sheet_refused l c p e) = inr (inl (number (mark_refuses_22 list sheet marks room l c p e)))
     go (short l e k) = inr (inr (number (mark_refuses_11 list sheet marks room l e k)))
     go (answered l e k) =
         let q = mark_passes list sheet marks room l e k in
@@ -190,19 +188,19 @@ located_numbers list sheet marks room check place h = go (mark_step list sheet m
         let z : ◌≡◌ {A = ℕ} 0 1 = cc in absurd (omega arith)
 
 -- of a chosen cable: 22 and 23
-module _ (list sheet : List ℕ) (line check place : ℕ) where
-  pub selected_numbers : selected list sheet line ≡ own.Refused check place → (check ≡ 22) ⊎ (check ≡ 23)
+module _ (list sheet : List ℕ) (line : ℕ) (check : Fault) (place : ℕ) where
+  pub selected_numbers : selected list sheet line ≡ refused check place → (check ≡ faults.SheetRefused) ⊎ (check ≡ faults.NoSuchLine)
   selected_numbers h = go (cable_step list sheet line)
     where
-      go : CableStep list sheet line → (check ≡ 22) ⊎ (check ≡ 23)
-      go (not_accepted_lem c p e) = let q = selected_refuses_22 list sheet line c p e in inl (cc)
-      go (no_line e l) = let q = selected_refuses_23 list sheet line e l in inr (cc)
+      go : CableStep list sheet line → (check ≡ faults.SheetRefused) ⊎ (check ≡ faults.NoSuchLine)
+      go (not_accepted_lem c p e) = inl (same_fault (sym h ∙ selected_refuses_22 list sheet line c p e))
+      go (no_line e l) = inr (same_fault (sym h ∙ selected_refuses_23 list sheet line e l))
       go (chosen e l) = let q = selected_words list sheet line e l in let z : ◌≡◌ {A = ℕ} 0 1 = cc in absurd (omega arith)
 
-  pub bounded_numbers : bounded list sheet line ≡ box.Refused check place → (check ≡ 22) ⊎ (check ≡ 23)
+  pub bounded_numbers : bounded list sheet line ≡ refused check place → (check ≡ faults.SheetRefused) ⊎ (check ≡ faults.NoSuchLine)
   bounded_numbers h = go (cable_step list sheet line)
     where
-      go : CableStep list sheet line → (check ≡ 22) ⊎ (check ≡ 23)
-      go (not_accepted_lem c p e) = let q = bounded_refuses_22 list sheet line c p e in inl (cc)
-      go (no_line e l) = let q = bounded_refuses_23 list sheet line e l in inr (cc)
+      go : CableStep list sheet line → (check ≡ faults.SheetRefused) ⊎ (check ≡ faults.NoSuchLine)
+      go (not_accepted_lem c p e) = inl (same_fault (sym h ∙ bounded_refuses_22 list sheet line c p e))
+      go (no_line e l) = inr (same_fault (sym h ∙ bounded_refuses_23 list sheet line e l))
       go (chosen e l) = let q = bounded_box list sheet line e l in let z : ◌≡◌ {A = ℕ} 0 1 = cc in absurd (omega arith)

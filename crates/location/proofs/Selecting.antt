@@ -3,6 +3,8 @@
 --     own_words, own_corners    first the cable's word, then as many as it counts, in which its corners are read
 --     selects                   the answer that is to be given has these words
 --     encloses                  the answer that is to be given has the smallest box
+use Rattle.checks.specs.declared.Fault.{Fault}
+use Rattle.std.specs.Prelude.{Ok, Err}
 use Prim.Native.Nat.{ℕ, suc, ◌+◌, ◌-◌, ◌*◌, ◌<◌, ◌≤◌}
 use native.Mathlib.Numerals.{add-one}
 use native.Mathlib.Omega.{arith}
@@ -14,7 +16,7 @@ use mathlib.Core.List.{List, [], ◌∷◌, ◌++◌, map, Memᴰ}
 use lib.ListN.{length, get_or, take, drop, length-map, get_or-map}
 use lib.Seq.{drop-cons}
 use denote.Ref.{Bor}
-use Rattle.checks.specs.Checks.{Clear}
+use Rattle.checks.specs.Checks.{Clear, refused}
 use Rattle.station.specs.Station.{Station, Cable, no_cable, station_of}
 use Rattle.order.specs.Checks.{all_checks}
 use Rattle.geometry.specs.Spots.{Spot}
@@ -30,12 +32,8 @@ use Rattle.validation.proofs.Accepting.{route_directed, passed_all}
 use Rattle.bounds.specs.declared.Bounds.{Bounds}
 use Rattle.bounds.specs.Boxes.{box_of, Smallest}
 use Rattle.bounds.proofs.Smallest.{smallest, smallest_same}
-use Rattle.location.specs.declared.Selected.{Selected}
-use Rattle.location.specs.declared.Selected.TheVariants as own
-use Rattle.location.specs.declared.Bounded.{Bounded}
-use Rattle.location.specs.declared.Bounded.TheVariants as box
 use Rattle.location.specs.Selection.{own_start, own_count, PartOf, cable_box}
-use Rattle.location.specs.Outcome.{drawing_of, selected, start_in, count_in, Selects, bounded, Encloses}
+use Rattle.location.specs.Outcome.{drawing_of, selected, start_in, count_in, Selects, bounded, Encloses, Selected, Bounded}
 use Rattle.location.proofs.Answers.{CableStep, not_accepted_lem, no_line, chosen, cable_step, selected_refuses_22, selected_refuses_23, selected_words, bounded_refuses_22, bounded_refuses_23, Given, selected_given, bounded_given}
 use Rattle.location.proofs.SameLine.{accepted_points}
 
@@ -157,11 +155,11 @@ module _ (list sheet : List ℕ) (line : ℕ) (given : Given list sheet line) wh
 
 -- where a cable's words are refused, its box is, with the same number and place
 pub refused_alike :
-    (list sheet : List ℕ) (line check place : ℕ) → selected list sheet line ≡ own.Refused check place
-    → bounded list sheet line ≡ box.Refused check place
+    (list sheet : List ℕ) (line : ℕ) (check : Fault) (place : ℕ) → selected list sheet line ≡ refused check place
+    → bounded list sheet line ≡ refused check place
 refused_alike list sheet line check place h = go (cable_step list sheet line)
   where
-    go : CableStep list sheet line → bounded list sheet line ≡ box.Refused check place
+    go : CableStep list sheet line → bounded list sheet line ≡ refused check place
     go (not_accepted_lem c p e) =
         let q = selected_refuses_22 list sheet line c p e in cc (bounded_refuses_22 list sheet line c p e)
     go (no_line e l) = let q = selected_refuses_23 list sheet line e l in cc (bounded_refuses_23 list sheet line e l)
@@ -177,9 +175,9 @@ selects list sheet line answer e = record {
 }
   where
     inside : (a : Selected) → a ≡ selected list sheet line → start_in a + count_in a ≤ length sheet
-    inside (own.Words start count) h =
-        let g = selected_given list sheet line start count (sym h) in omega (arith, own_inside list sheet line g.0)
-    inside (own.Refused check place) h = omega arith
+    inside (Ok s) h =
+        let g = selected_given list sheet line s.start s.count (sym h) in omega (arith, own_inside list sheet line g.0)
+    inside (Err r) h = omega arith
 
 pub encloses : (list sheet : List ℕ) (line : ℕ) (answer : Bounded) → answer ≡ bounded list sheet line → Encloses list sheet line answer
 encloses list sheet line answer e = record {

@@ -1,15 +1,16 @@
 -- Request 2026-10 on worked sheets: the triangle's and station D's of document 01. The request names no example: the marks are ours, worked
 -- out by hand. Assumes nothing.
+use Rattle.checks.specs.Checks.{refused}
+use Rattle.std.specs.Prelude.{Ok}
 use Prim.Native.Nat.{ℕ}
 use mathlib.Core.Path.{◌≡◌, refl}
 use mathlib.Core.List.{List, [], ◌∷◌}
 use lib.ListN.{replicate, take, drop}
+use Rattle.checks.specs.declared.Fault.TheVariants as faults
 use Rattle.checks.specs.Outcome.{written, sent_back}
 use Rattle.station.specs.Station.{station_of}
-use Rattle.location.specs.declared.Selected.TheVariants as own
-use Rattle.location.specs.declared.Bounded.TheVariants as box
 use Rattle.location.specs.Hits.{hit_words}
-use Rattle.location.specs.Outcome.{locate_outcome, selected, bounded}
+use Rattle.location.specs.Outcome.{locate_outcome, words_at, selected, bounded}
 use Rattle.location.proofs.Computing.{location_computing}
 
 triangle : List ℕ
@@ -55,30 +56,30 @@ record Table : Type 0 where
   -- no mark is answered by no word
   none : locate_outcome triangle sheet [] 0 ≡ written [] tt
   -- 65 marks, whatever the list and the sheet; 64 marks on an empty list
-  many : locate_outcome [] [] (replicate 65 0) 65 ≡ sent_back 21 65
-  many_first : locate_outcome separated cut (replicate 65 0) 0 ≡ sent_back 21 65
-  most : locate_outcome [] [] (replicate 64 0) 0 ≡ sent_back 22 0
+  many : locate_outcome [] [] (replicate 65 0) 65 ≡ sent_back faults.TooManyMarks 65
+  many_first : locate_outcome separated cut (replicate 65 0) 0 ≡ sent_back faults.TooManyMarks 65
+  most : locate_outcome [] [] (replicate 64 0) 0 ≡ sent_back faults.SheetRefused 0
   most_hits : locate_outcome triangle sheet (replicate 64 0) 64 ≡ written (replicate 64 0xb1000000) tt
   -- the place that 10, 19 and 20 have
-  list_place : locate_outcome separated sheet (0 ∷ []) 1 ≡ sent_back 22 1
-  layout_place : locate_outcome triangle cut (0 ∷ []) 1 ≡ sent_back 22 8
-  rules_place : locate_outcome triangle touching (0 ∷ []) 1 ≡ sent_back 22 2
+  list_place : locate_outcome separated sheet (0 ∷ []) 1 ≡ sent_back faults.SheetRefused 1
+  layout_place : locate_outcome triangle cut (0 ∷ []) 1 ≡ sent_back faults.SheetRefused 8
+  rules_place : locate_outcome triangle touching (0 ∷ []) 1 ≡ sent_back faults.SheetRefused 2
   -- a row of one word for two answers; behind 22
-  short : locate_outcome triangle sheet (0 ∷ 1 ∷ []) 1 ≡ sent_back 11 2
-  short_behind : locate_outcome triangle touching (0 ∷ 1 ∷ []) 1 ≡ sent_back 22 2
+  short : locate_outcome triangle sheet (0 ∷ 1 ∷ []) 1 ≡ sent_back faults.OutputTooShort 2
+  short_behind : locate_outcome triangle touching (0 ∷ 1 ∷ []) 1 ≡ sent_back faults.SheetRefused 2
   -- own words of line 2: `60002002 70001000 70001002`; of line 0 its own word alone
-  own_words : selected triangle sheet 2 ≡ own.Words 6 3
+  own_words : selected triangle sheet 2 ≡ words_at 6 3
   their_words : take 3 (drop 6 sheet) ≡ 0x60002002 ∷ 0x70001000 ∷ 0x70001002 ∷ []
-  own_word : selected triangle sheet 0 ≡ own.Words 4 1
+  own_word : selected triangle sheet 0 ≡ words_at 4 1
   -- line 3 of three cables; 22 comes first
-  no_line : selected triangle sheet 3 ≡ own.Refused 23 3
-  far_line : selected triangle sheet 0xffff_ffff_ffff_ffff ≡ own.Refused 23 0xffff_ffff_ffff_ffff
-  not_accepted_lem : selected triangle touching 3 ≡ own.Refused 22 2
+  no_line : selected triangle sheet 3 ≡ refused faults.NoSuchLine 3
+  far_line : selected triangle sheet 0xffff_ffff_ffff_ffff ≡ refused faults.NoSuchLine 0xffff_ffff_ffff_ffff
+  not_accepted_lem : selected triangle touching 3 ≡ refused faults.SheetRefused 2
   -- the box of line 2 is from (0, 0) to (1, 2), that of line 1 from (0, 1) to (0, 2)
-  own_box : bounded triangle sheet 2 ≡ box.Box (record { left = 0; bottom = 0; right = 1; top = 2 })
-  straight_box : bounded triangle sheet 1 ≡ box.Box (record { left = 0; bottom = 1; right = 0; top = 2 })
-  no_box : bounded triangle sheet 3 ≡ box.Refused 23 3
-  box_refused : bounded triangle cut 3 ≡ box.Refused 22 8
+  own_box : bounded triangle sheet 2 ≡ Ok (record { left = 0; bottom = 0; right = 1; top = 2 })
+  straight_box : bounded triangle sheet 1 ≡ Ok (record { left = 0; bottom = 1; right = 0; top = 2 })
+  no_box : bounded triangle sheet 3 ≡ refused faults.NoSuchLine 3
+  box_refused : bounded triangle cut 3 ≡ refused faults.SheetRefused 8
 
 table : Table
 unfolding location_computing triangle sheet touching cut separated station_d sheet_d

@@ -12,10 +12,9 @@ use Rattle.validation.specs.Layout.{Follows, cable_place}
 use Rattle.validation.specs.Directions.{directed, shown}
 use Rattle.validation.proofs.Following.{place_next, place_rises}
 use Rattle.validation.proofs.Unread.{drawing_unread, rest_unread, same_place}
-use Rattle.location.specs.declared.Selected.TheVariants as own
 use Rattle.location.specs.Hits.{hit_at, hit_words}
 use Rattle.location.specs.Selection.{cable_box}
-use Rattle.location.specs.Outcome.{mark_checks, cable_checks, locate_outcome, selected, bounded}
+use Rattle.location.specs.Outcome.{mark_checks, cable_checks, locate_outcome, words_at, selected, bounded}
 use Rattle.location.proofs.Answers.{CableStep, not_accepted_lem, no_line, chosen, cable_step, selected_refuses_22, selected_refuses_23, selected_words}
 
 module _ (st : Station) (sheet rest : List ℕ) (F : Follows st.parts (length st.cables) sheet) where
@@ -72,5 +71,5 @@ module _ (list sheet rest : List ℕ) (F : Follows (station_of list).parts (leng
       go (no_line e l) =
           selected_refuses_23 list (sheet ++ rest) line (rest_unread list sheet rest F ∙ e) l ∙ sym (selected_refuses_23 list sheet line e l)
       go (chosen e l) =
-          selected_words list (sheet ++ rest) line (rest_unread list sheet rest F ∙ e) l ∙ ap₂ own.Words (start_same line l) (count_same line l)
+          selected_words list (sheet ++ rest) line (rest_unread list sheet rest F ∙ e) l ∙ ap₂ words_at (start_same line l) (count_same line l)
           ∙ sym (selected_words list sheet line e l)

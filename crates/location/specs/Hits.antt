@@ -1,7 +1,5 @@
 -- Request 2026-10: 'the screen names what lies there'. Assumes nothing.
-use Rattle.std.specs.Prelude.{ℕ, List, [], ◌∷◌, map, length}
-use Rattle.lists.specs.declared.Found.{Found}
-use Rattle.lists.specs.declared.Found.TheVariants.{At, Nothing}
+use Rattle.std.specs.Prelude.{ℕ, List, [], ◌∷◌, map, length, Option, Some, None}
 use Rattle.lists.specs.Search.{seek}
 use Rattle.lists.specs.Select.{filter, range}
 use Rattle.words.specs.Words.{mark_x, mark_y, blank_hit, part_hit, cable_hit, crossing_hit, hit_word}
@@ -19,7 +17,7 @@ abbrev pub mark_spot : ℕ → Spot
 mark_spot w = spot_at (mark_x w) (mark_y w)
 
 -- the part whose spot this is
-unfoldable pub part_at : ℕ → Drawing → Spot → Found
+unfoldable pub part_at : ℕ → Drawing → Spot → Option ℕ
 part_at n d s = seek (λ p. same_spot (spot_of d p) s) 0 n
 
 -- the cables whose lines have the spot, by rising line; each line is read in a direction in which it is right
@@ -33,9 +31,9 @@ named (i ∷ []) = Cable i
 named (i ∷ j ∷ more) = Crossing i j
 
 -- 'at a part's spot it names the part alone'
-abbrev pub part_or : Found → Hit → Hit
-part_or (At p) cables = Part (record { 0 = p })
-part_or Nothing cables = cables
+abbrev pub part_or : Option ℕ → Hit → Hit
+part_or (Some p) cables = Part (record { 0 = p })
+part_or None cables = cables
 
 -- what lies at a spot of an accepted sheet
 unfoldable pub hit_at : Station → List ℕ → Spot → Hit

@@ -2,15 +2,13 @@
 ghost use Rattle.std.specs.Prelude.{◌≡◌, length};
 ghost use Rattle.drawing.specs.declared.spacing.Spacing as given;
 ghost use Rattle.drawing.specs.Sheet.{sheet_words, quoted_words};
-ghost use Rattle.placement.specs.Arrays.{IsLayout, layout_in};
+ghost use Rattle.placement.specs.Arrays.{layout_in};
 
 use placement::Layout;
-use prices::Discount;
 
 // '3m - n + 3 + d + e words', and m + 1 lengths (2026-01), in every spacing.
-pub fn count_words(layout: Layout) -> usize
-    requires { IsLayout layout }
-    ensures { (s : given.Spacing) → result ≡ length (sheet_words s (layout_in layout)) }
+pub fn count_words(layout: &Layout) -> usize
+    ensures { (s : given.Spacing) → result ≡ length (sheet_words s (layout_in layout.now)) }
 {
     let n = layout.graph.parts;
     let m = layout.graph.cables;
@@ -18,13 +16,12 @@ pub fn count_words(layout: Layout) -> usize
 }
 
 // The words of a sheet in every spacing, and 'm + 1 words' more where a discount is given.
-pub fn count_quoted(layout: Layout, discount: Discount) -> usize
-    requires { IsLayout layout }
-    ensures { (s : given.Spacing) → result ≡ length (quoted_words s discount (layout_in layout)) }
+pub fn count_quoted(layout: &Layout, discount: Option<u32>) -> usize
+    ensures { (s : given.Spacing) → result ≡ length (quoted_words s discount (layout_in layout.now)) }
 {
     let words = count_words(layout);
     match discount {
-        Discount::NotGiven => words,
-        Discount::Given(_) => words + layout.graph.cables + 1,
+        None => words,
+        Some(_) => words + layout.graph.cables + 1,
     }
 }

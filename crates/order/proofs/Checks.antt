@@ -1,11 +1,11 @@
 -- What checks 9 and 10 say, in terms of paths, both ways. Assumes nothing.
+use Rattle.std.specs.Prelude.{Some, None}
 use Prim.Native.Nat.{ℕ, ◌<◌}
 use native.Mathlib.Omega.{arith}
 use mathlib.Core.Path.{◌≡◌, refl, sym, ap, ◌∙◌, subst}
 use mathlib.Core.Logic.{◌⊎◌, inl, inr, ◌↔◌}
 use mathlib.Core.Bool.{Bool, true, false, not, false≢true}
 use mathlib.Core.List.{List, [], ◌∷◌, Memᴰ}
-use Rattle.lists.specs.declared.Found.TheVariants.{At, Nothing}
 use Rattle.lists.specs.Search.{seek}
 use Rattle.lists.specs.Select.{range, member, without}
 use Rattle.lists.proofs.Select.{range_e, range_i}
@@ -54,7 +54,7 @@ module _ (n : ℕ) (p : ℕ → Bool) (Bad Good : ℕ → Type 0) (decides : (x 
       go (inl h) = absurd (b h.1)
       go (inr h) = h.0
 
-  pub at_iff : (x : ℕ) → (seek p 0 n ≡ At x) ↔ Lowest n Bad x
+  pub at_iff : (x : ℕ) → (seek p 0 n ≡ Some x) ↔ Lowest n Bad x
   at_iff x = (λ e. to (seek_found p 0 n e), λ h. seek_first p 0 n (fro h))
     where
       to : First p 0 n x → Lowest n Bad x
@@ -74,7 +74,7 @@ module _ (n : ℕ) (p : ℕ → Bool) (Bad Good : ℕ → Type 0) (decides : (x 
             none = λ j a l. when_not_bad (omega (arith, h.part)) (h.lowest j l);
           }
 
-  pub nothing_iff : (seek p 0 n ≡ Nothing) ↔ ((x : ℕ) → x < n → Good x)
+  pub nothing_iff : (seek p 0 n ≡ None) ↔ ((x : ℕ) → x < n → Good x)
   nothing_iff = (
     λ e x l. when_false l (seek_nothing p 0 n e x (omega arith) (omega arith)),
     λ h. seek_none p 0 n (λ j a b. when_not_bad (omega arith) (λ c. clash j c (h j (omega arith)))),
@@ -110,13 +110,13 @@ module _ (st : Station) where
           inr (member_absent p left (λ m. ((unreached_iff st.cables (range st.parts) 0 p).0 m).1 r), path_wider st.cables (λ x h. range_e st.parts h) r)
 
   -- 'a part that part 0 doesn't reach', 'lowest such part'
-  pub check9_at : (p : ℕ) → (check9 st ≡ At p) ↔ Lowest st.parts (λ q. Path st.cables (Part st.parts) q 0 → ⊥) p
+  pub check9_at : (p : ℕ) → (check9 st ≡ Some p) ↔ Lowest st.parts (λ q. Path st.cables (Part st.parts) q 0 → ⊥) p
   unfolding check9
   check9_at p =
       at_iff st.parts (λ q. member q (unreached st.cables (range st.parts) (0 ∷ []))) (λ q. Path st.cables (Part st.parts) q 0 → ⊥)
       (λ q. Path st.cables (Part st.parts) q 0) decides9 (λ q b g. b g) p
 
-  pub check9_nothing : (check9 st ≡ Nothing) ↔ ((p : ℕ) → p < st.parts → Path st.cables (Part st.parts) p 0)
+  pub check9_nothing : (check9 st ≡ None) ↔ ((p : ℕ) → p < st.parts → Path st.cables (Part st.parts) p 0)
   unfolding check9
   check9_nothing =
       nothing_iff st.parts (λ q. member q (unreached st.cables (range st.parts) (0 ∷ []))) (λ q. Path st.cables (Part st.parts) q 0 → ⊥)
@@ -199,11 +199,11 @@ module _ (st : Station) where
   decides10 v l = null_cases v (separated st v) refl
 
   -- 'a part whose removal leaves some other part that reaches neither s nor t', 'lowest such part'
-  pub check10_at : (v : ℕ) → (check10 st ≡ At v) ↔ Lowest st.parts SeparatesSome v
+  pub check10_at : (v : ℕ) → (check10 st ≡ Some v) ↔ Lowest st.parts SeparatesSome v
   unfolding check10
   check10_at v = at_iff st.parts (λ u. not (null (separated st u))) SeparatesSome SeparatesNone decides10 (λ u c k. c.2 (k c.0 c.1)) v
 
-  pub check10_nothing : (check10 st ≡ Nothing) ↔ Bipolar st
+  pub check10_nothing : (check10 st ≡ None) ↔ Bipolar st
   unfolding check10
   check10_nothing =
       let iff = nothing_iff st.parts (λ u. not (null (separated st u))) SeparatesSome SeparatesNone decides10 (λ u c k. c.2 (k c.0 c.1)) in

@@ -1,11 +1,11 @@
 -- Document 01's check 10 in terms of paths: where it finds nothing, neither does the check of request 2026-14. Assumes nothing.
+use Rattle.std.specs.Prelude.{None}
 use Prim.Native.Nat.{ℕ, ◌<◌}
 use native.Mathlib.Decide.{ℕ_discrete}
 use mathlib.Core.Path.{◌≡◌, sym, ap, ◌∙◌}
 use mathlib.Core.Logic.{◌⊎◌, inl, inr, ◌↔◌}
 use mathlib.Core.Bool.{true, false, not}
 use mathlib.Core.List.{List}
-use Rattle.lists.specs.declared.Found.TheVariants.{Nothing}
 use Rattle.lists.specs.Select.{range, without}
 use Rattle.station.specs.Station.{Station}
 use Rattle.station.specs.Code.{Wired}
@@ -53,7 +53,7 @@ module _ (st : Station) where
             ),
           )
 
-  pub cut_nothing : (cut_part st ≡ Nothing) ↔ ((v : ℕ) → v < st.parts → Keeps v)
+  pub cut_nothing : (cut_part st ≡ None) ↔ ((v : ℕ) → v < st.parts → Keeps v)
   unfolding cut_part
   cut_nothing =
       nothing_iff st.parts (λ u. not (connected st.cables (without u (range st.parts)))) Cuts Keeps decides
@@ -69,5 +69,5 @@ module _ (st : Station) where
         go (no q) = inl (keeps v l p st.source (m, h) (W.source, q))
 
     -- a station without a cut part passes check 10
-    pub uncut_passes : cut_part st ≡ Nothing → check10 st ≡ Nothing
+    pub uncut_passes : cut_part st ≡ None → check10 st ≡ None
     uncut_passes e = (check10_nothing st).1 (keeps_bipolar (cut_nothing.0 e))

@@ -1,4 +1,5 @@
 -- Laws of paths, of checks 9 and 10 and of the order. Assumes nothing.
+use Rattle.checks.specs.Checks.{passed}
 pub mod Computing
 pub mod Worked
 pub mod Joins

@@ -1,10 +1,10 @@
 -- A list that passes checks 1 to 10: each check, the condition of the order theorem, and the order theorem for lists. Assumes nothing.
+use Rattle.std.specs.Prelude.{None}
 use Prim.Native.Nat.{ℕ, ◌-◌, ◌≤◌}
 use mathlib.Core.Path.{◌≡◌, refl}
 use mathlib.Core.List.Memᴰ
 use mathlib.Core.List.{List}
 use lib.ListN.{length}
-use Rattle.lists.specs.declared.Found.TheVariants.{Nothing}
 use Rattle.words.specs.Limits.{most_cables}
 use Rattle.station.specs.Station.{station_of}
 use Rattle.checks.specs.Checks.{Clear}
@@ -28,11 +28,11 @@ use Rattle.order.proofs.Ranks.{order_ranked}
 use Rattle.order.proofs.Orientation.{ranks_once}
 
 -- each of checks 9 and 10 finds nothing
-pub clear_9 : (list : List ℕ) → Clear all_checks list → check9 (station_of list) ≡ Nothing
+pub clear_9 : (list : List ℕ) → Clear all_checks list → check9 (station_of list) ≡ None
 unfolding all_checks station_checks
 clear_9 list h = clear_each list station_checks (clear_rest list list_checks station_checks h) (Memᴰ.head refl)
 
-pub clear_10 : (list : List ℕ) → Clear all_checks list → check10 (station_of list) ≡ Nothing
+pub clear_10 : (list : List ℕ) → Clear all_checks list → check10 (station_of list) ≡ None
 unfolding all_checks station_checks
 clear_10 list h = clear_each list station_checks (clear_rest list list_checks station_checks h) (Memᴰ.tail (Memᴰ.head refl))
 
@@ -67,7 +67,7 @@ module _ (list : List ℕ) (pass : Clear all_checks list) where
   list_ranked = order_ranked (station_of list) list_orderable
 
   -- and, where no cable is repeated, what its limit of two corners rests on (2026-12)
-  pub list_once : first_repeat list ≡ Nothing → EndsOnce (graph_of (station_of list))
+  pub list_once : first_repeat list ≡ None → EndsOnce (graph_of (station_of list))
   list_once none =
       let once = ranks_once (station_of list) list_orderable (simple list none) in
       let n = (graph_of (station_of list)).parts in

@@ -1,17 +1,17 @@
 -- Request 2026-14: a part that separates others from both ends separates a neighbour of its own; of the lists that pass checks 1 to 9,
 -- check 10 refuses exactly those without an st-ordering between their ends. Assumes nothing.
+use Rattle.checks.proofs.FirstRefusal.{same_fault, same_place}
+use Rattle.checks.specs.declared.Fault.{Fault}
+use Rattle.std.specs.Prelude.{Option, Some, None, Ok, Err, ⊤}
 use Prim.Native.Nat.{ℕ, ◌<◌}
 use native.Mathlib.Omega.{arith}
 use native.Mathlib.Decide.{ℕ_discrete}
-use mathlib.Core.Path.{◌≡◌, refl, sym, ◌∙◌, subst}
+use mathlib.Core.Path.{◌≡◌, refl, sym, ◌∙◌, subst, ap}
 use mathlib.Core.Logic.{◌⊎◌, inl, inr, ◌↔◌}
 use mathlib.Core.List.{List, Memᴰ}
-use Rattle.lists.specs.declared.Found.{Found}
-use Rattle.lists.specs.declared.Found.TheVariants.{At, Nothing}
 use Rattle.lists.proofs.Sets.{dec_mem}
-use Rattle.checks.specs.declared.Verdict.{Verdict}
-use Rattle.checks.specs.declared.Verdict.TheVariants.{Passed, Refused}
-use Rattle.checks.specs.Checks.{first_refusal, Clear}
+use Rattle.checks.specs.declared.Fault.TheVariants as faults
+use Rattle.checks.specs.Checks.{first_refusal, Clear, Verdict, passed, refused, number_of}
 use Rattle.station.specs.Station.{Station, station_of}
 use Rattle.station.specs.Checks.{list_checks}
 use Rattle.station.specs.Code.{Wired}
@@ -30,7 +30,7 @@ use Rattle.order.proofs.Passed.{list_ordering}
 
 -- A part that v separates from both ends is joined to them through v alone, so that a neighbour of v is separated too
 
-module _ (st : Station) (W : Wired st) (nine : check9 st ≡ Nothing) (v : ℕ) where
+module _ (st : Station) (W : Wired st) (nine : check9 st ≡ None) (v : ℕ) where
   -- a path from a to b
   between : (a b : ℕ) → a < st.parts → b < st.parts → Path st.cables (Part st.parts) b a
   between a b h g =
@@ -70,40 +70,40 @@ module _ (st : Station) (W : Wired st) (nine : check9 st ≡ Nothing) (v : ℕ) 
       go (inr h) = beside h.0 h.1 (path_end st.cables h.2).1 h.3 h.4 (ℕ_discrete h.1 v)
 
 -- 'the list then has no st-ordering between those ends', of stations
-pub separated_unordered : (st : Station) (v : ℕ) → check10 st ≡ At v → (l : List ℕ) → StOrdering st l → ⊥
+pub separated_unordered : (st : Station) (v : ℕ) → check10 st ≡ Some v → (l : List ℕ) → StOrdering st l → ⊥
 separated_unordered st v e l O =
     let h = (check10_at st v).0 e in
     h.bad.2 (ordering_bipolar st l O v h.bad.0 h.part h.bad.1.0 h.bad.1.1)
 
-refusals_same : {c k p q : ℕ} → Refused c p ≡ Refused k q → (c ≡ k) × (p ≡ q)
-refusals_same e = (cc, cc)
+refusals_same : {c k : Fault} {p q : ℕ} → refused {A = ⊤} c p ≡ refused k q → (c ≡ k) × (p ≡ q)
+refusals_same e = (same_fault e, same_place e)
 
 module _ (list : List ℕ) where
   -- A list that check 10 refuses passed the checks before it, and the place is what the check finds.
-  module _ (v : ℕ) (refused : first_refusal all_checks list ≡ Refused 10 v) where
+  module _ (v : ℕ) (sent : first_refusal all_checks list ≡ refused faults.SeparatingPart v) where
     refused_eight : Clear list_checks list
     refused_eight = go (first_refusal list_checks list) refl
       where
-        go : (r : Verdict) → first_refusal list_checks list ≡ r → first_refusal list_checks list ≡ Passed
-        go Passed h = h
-        go (Refused k p) h = absurd (omega (arith, (refusals_same (sym (refused_8 list k p h) ∙ refused)).0, (list_number list h).most))
+        go : (r : Verdict) → first_refusal list_checks list ≡ r → first_refusal list_checks list ≡ passed
+        go (Ok u) h = h
+        go (Err r) h = absurd (omega (arith, ap number_of (refusals_same (sym (refused_8 list r.fault r.place h) ∙ sent)).0, (list_number list h).most))
 
-    refused_nine : check9 (station_of list) ≡ Nothing
+    refused_nine : check9 (station_of list) ≡ None
     refused_nine = go (check9 (station_of list)) refl
       where
-        go : (f : Found) → check9 (station_of list) ≡ f → check9 (station_of list) ≡ Nothing
-        go Nothing h = h
-        go (At p) h = absurd (omega (arith, (refusals_same (sym (refused_9 list refused_eight p h) ∙ refused)).0))
+        go : (f : Option ℕ) → check9 (station_of list) ≡ f → check9 (station_of list) ≡ None
+        go None h = h
+        go (Some p) h = absurd (omega (arith, ap number_of (refusals_same (sym (refused_9 list refused_eight p h) ∙ sent)).0))
 
-    pub refused_place : check10 (station_of list) ≡ At v
+    pub refused_place : check10 (station_of list) ≡ Some v
     refused_place = go (check10 (station_of list)) refl
       where
-        go : (f : Found) → check10 (station_of list) ≡ f → check10 (station_of list) ≡ At v
-        go Nothing h =
-            let e : Passed ≡ Refused 10 v = sym (all_clear list refused_eight refused_nine h) ∙ refused in
+        go : (f : Option ℕ) → check10 (station_of list) ≡ f → check10 (station_of list) ≡ Some v
+        go None h =
+            let e : passed ≡ refused faults.SeparatingPart v = sym (all_clear list refused_eight refused_nine h) ∙ sent in
             let z : ◌≡◌ {A = ℕ} 0 1 = cc in
             absurd (omega arith)
-        go (At p) h = let e : p ≡ v = (refusals_same (sym (refused_10 list refused_eight refused_nine p h) ∙ refused)).1 in rw e at h
+        go (Some p) h = let e : p ≡ v = (refusals_same (sym (refused_10 list refused_eight refused_nine p h) ∙ sent)).1 in rw e at h
 
     -- 'the list then has no st-ordering between those ends'
     pub refused_unordered : (l : List ℕ) → StOrdering (station_of list) l → ⊥
@@ -114,7 +114,7 @@ module _ (list : List ℕ) where
   passed_ordered pass = (order (station_of list), list_ordering list pass)
 
   -- of a list that passes checks 1 to 9
-  module _ (eight : Clear list_checks list) (nine : check9 (station_of list) ≡ Nothing) where
+  module _ (eight : Clear list_checks list) (nine : check9 (station_of list) ≡ None) where
     -- it passes check 10 exactly if it has an st-ordering
     pub passes_iff : Clear all_checks list ↔ ((l : List ℕ) × StOrdering (station_of list) l)
     passes_iff = (
@@ -123,7 +123,7 @@ module _ (list : List ℕ) where
     )
 
     -- it is refused with 10 and v exactly if v is the lowest part that separates another from both ends
-    pub refused_iff : (v : ℕ) → (first_refusal all_checks list ≡ Refused 10 v) ↔ Lowest (station_of list).parts (SeparatesSome (station_of list)) v
+    pub refused_iff : (v : ℕ) → (first_refusal all_checks list ≡ refused faults.SeparatingPart v) ↔ Lowest (station_of list).parts (SeparatesSome (station_of list)) v
     refused_iff v = (
       λ e. (check10_at (station_of list) v).0 (refused_place v e),
       λ h. refused_10 list eight nine v ((check10_at (station_of list) v).1 h),

@@ -1,8 +1,8 @@
 -- Checks 9 and 10 and the order of document 01's examples, of chains and blocks and of stations B and C. Assumes nothing.
+use Rattle.std.specs.Prelude.{Some, None}
 use Prim.Native.Nat.{ℕ}
 use mathlib.Core.Path.{◌≡◌, refl}
 use mathlib.Core.List.{List, [], ◌∷◌}
-use Rattle.lists.specs.declared.Found.TheVariants.{At, Nothing}
 use Rattle.station.specs.Station.{Cable, Station}
 use Rattle.order.specs.Reach.{check9, separated, check10}
 use Rattle.order.specs.CutParts.{cut_part}
@@ -34,22 +34,22 @@ abbrev station_c : Station
 station_c = with_cables 4 0 2 (join 0 1 ∷ join 0 3 ∷ join 1 3 ∷ join 1 2 ∷ join 0 2 ∷ [])
 
 record Worked : Type 0 where
-  refusal_9 : check9 (with_cables 3 0 2 (join 0 1 ∷ [])) ≡ At 2
+  refusal_9 : check9 (with_cables 3 0 2 (join 0 1 ∷ [])) ≡ Some 2
   -- check 10 of document 01 and of request 2026-14
-  chain_cut : cut_part (chain 0 2) ≡ At 1
-  chain_9 : check9 (chain 0 2) ≡ Nothing
-  chain_10 : check10 (chain 0 2) ≡ Nothing
+  chain_cut : cut_part (chain 0 2) ≡ Some 1
+  chain_9 : check9 (chain 0 2) ≡ None
+  chain_10 : check10 (chain 0 2) ≡ None
   chain_order : order (chain 0 2) ≡ 0 ∷ 1 ∷ 2 ∷ []
-  chain_back : check10 (chain 2 0) ≡ Nothing
+  chain_back : check10 (chain 2 0) ≡ None
   chain_separated : separated (chain 0 1) 1 ≡ 2 ∷ []
-  refusal_10 : check10 (chain 0 1) ≡ At 1
-  refusal_10_source : check10 (chain 1 2) ≡ At 1
-  blocks_cut : cut_part blocks ≡ At 2
-  blocks_10 : check10 blocks ≡ Nothing
+  refusal_10 : check10 (chain 0 1) ≡ Some 1
+  refusal_10_source : check10 (chain 1 2) ≡ Some 1
+  blocks_cut : cut_part blocks ≡ Some 2
+  blocks_10 : check10 blocks ≡ None
   blocks_order : order blocks ≡ 0 ∷ 1 ∷ 2 ∷ 3 ∷ 4 ∷ []
-  pendant_10 : check10 pendant ≡ At 1
-  b_9 : check9 square ≡ Nothing
-  b_10 : check10 square ≡ Nothing
+  pendant_10 : check10 pendant ≡ Some 1
+  b_9 : check9 square ≡ None
+  b_10 : check10 square ≡ None
   b_order : order square ≡ 0 ∷ 1 ∷ 3 ∷ 2 ∷ []
   c_order : order station_c ≡ 0 ∷ 3 ∷ 1 ∷ 2 ∷ []
 

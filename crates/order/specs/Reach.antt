@@ -1,7 +1,6 @@
 -- Paths among parts, check 9 of document 01 and check 10 of request 2026-14. Assumes nothing.
-use Rattle.std.specs.Prelude.{ℕ, zero, suc, ◌+◌, ◌≡◌, Bool, true, false, cond, not, length, eqb}
+use Rattle.std.specs.Prelude.{ℕ, zero, suc, ◌+◌, ◌≡◌, Bool, true, false, cond, not, length, eqb, Option}
 use mathlib.Core.List.{List, [], ◌∷◌, ◌++◌, Memᴰ}
-use Rattle.lists.specs.declared.Found.{Found}
 use Rattle.lists.specs.Search.{seek}
 use Rattle.lists.specs.Select.{range, member, without, cons_if}
 use Rattle.station.specs.Station.{Cable, Station}
@@ -49,7 +48,7 @@ connected cs [] = true
 connected cs (p ∷ ps) = null (unreached cs (p ∷ ps) (p ∷ []))
 
 -- 9: 'a part that part 0 doesn't reach', 'lowest such part'
-unfoldable pub check9 : Station → Found
+unfoldable pub check9 : Station → Option ℕ
 check9 st = let left = unreached st.cables (range st.parts) (0 ∷ []) in seek (λ p. member p left) 0 st.parts
 
 -- the parts that v separates from both ends: the other parts that reach, without v, 'neither s nor t, whichever of them remain'. Where v is
@@ -58,5 +57,5 @@ unfoldable pub separated : Station → ℕ → List ℕ
 separated st v = unreached st.cables (without v (range st.parts)) (st.source ∷ st.analyser ∷ [])
 
 -- 10 (2026-14): 'a part whose removal leaves some other part that reaches neither s nor t', 'lowest such part'
-unfoldable pub check10 : Station → Found
+unfoldable pub check10 : Station → Option ℕ
 check10 st = seek (λ v. not (null (separated st v))) 0 st.parts

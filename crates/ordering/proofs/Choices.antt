@@ -1,20 +1,23 @@
 -- Laws of the tests of the next part, by flags: those that need no walk, and all of them. Assumes nothing.
+use Rattle.std.specs.Prelude.{Option, Some, None}
 use Prim.Native.Nat.{ℕ, ◌<◌}
 use mathlib.Core.Path.{◌≡◌, refl, sym, ap, ◌∙◌}
 use mathlib.Core.Bool.{Bool, beq, true, false, not, ◌&&◌, false≢true}
 use mathlib.Core.List.{List}
 use lib.ListN.{get_or}
 use lib.Dec.{eqb}
-use borrow.Author.Tests.{eqb-false, eq-eqb, ne_eqb, not-true, not-false}
-use Rattle.lists.specs.declared.Found.{Found}
-use Rattle.lists.specs.declared.Found.TheVariants.{At, Nothing}
+use borrow.Author.Tests.{eqb-false, not-true, not-false}
 use Rattle.lists.specs.Search.{is_found}
 use Rattle.lists.specs.Select.{member, any, without}
 use Rattle.lists.proofs.Filters.{any_same}
 use Rattle.station.specs.Station.{station_of}
 use Rattle.order.specs.Reach.{neighbours, connected}
 use Rattle.order.specs.Order.{candidate}
+use Rattle.reachability.specs.declared.adjacency.Neighbours.{Neighbours}
 use Rattle.reachability.specs.Tables.{has_neighbour, Adjacent, set_of, CutOff}
+use Rattle.words.specs.declared.Part.{Part}
+use Rattle.ordering.specs.Numbers.{part_numbers}
+use Rattle.ordering.proofs.Numbers.{part_number}
 use Rattle.ordering.specs.Choices.{Witnesses, known_separator, may_be_next, eligible}
 use Rattle.order.proofs.Reach.{connected_iff}
 use Rattle.reachability.proofs.Flags.{member_flagged}
@@ -23,38 +26,14 @@ use Rattle.ordering.proofs.Witnesses.{witness_holds}
 
 -- A known separator
 
-module _ (list : List ℕ) (flags : List Bool) (witness : List ℕ) (w : ℕ) {a : ℕ} (ea : a ≡ (station_of list).analyser) where
-  pub known_both : get_or flags a false ≡ true → get_or flags (get_or witness w 0) false ≡ known_separator list flags witness w
+module _ (list : List ℕ) (flags : List Bool) (witness : List Part) (w : ℕ) {a : ℕ} (ea : a ≡ (station_of list).analyser) where
+  pub known_both : get_or flags a false ≡ true → get_or flags (get_or witness w (record { 0 = 0 })).0 false ≡ known_separator list flags (part_numbers witness) w
   unfolding known_separator
-  known_both e = rw (← ea, e) refl
+  known_both e = rw (← ea, e) (ap (λ (q : ℕ). get_or flags q false) (part_number witness w))
 
-  pub known_not : get_or flags a false ≡ false → get_or flags a false ≡ known_separator list flags witness w
+  pub known_not : get_or flags a false ≡ false → get_or flags a false ≡ known_separator list flags (part_numbers witness) w
   unfolding known_separator
   known_not e = rw (← ea, e) refl
-
--- The tests that need no walk, in the code's sequence
-
-module _ (list table : List ℕ) (flags : List Bool) (witness : List ℕ) (w : ℕ) where
-  pub next_ranked : not (get_or flags w false) ≡ true → false ≡ may_be_next list table flags witness w
-  unfolding may_be_next
-  next_ranked e = rw (not-true (get_or flags w false) e) refl
-
-  module _ (u : not (get_or flags w false) ≡ false) {a : ℕ} (ea : a ≡ (station_of list).analyser) where
-    pub next_end : w ≡ a → false ≡ may_be_next list table flags witness w
-    unfolding may_be_next
-    next_end e = rw (not-false (get_or flags w false) u, eq-eqb w (station_of list).analyser (e ∙ ea)) refl
-
-    module _ (n : w ≡ a → ⊥) {k : Bool} (ek : k ≡ known_separator list flags witness w) where
-      other : eqb w (station_of list).analyser ≡ false
-      other = ne_eqb w (station_of list).analyser (λ e. n (e ∙ sym ea))
-
-      pub next_known : k ≡ true → false ≡ may_be_next list table flags witness w
-      unfolding may_be_next
-      next_known e = rw (not-false (get_or flags w false) u, other, ← ek, e) refl
-
-      pub next_open : {b : Bool} → k ≡ false → b ≡ has_neighbour table flags w false → b ≡ may_be_next list table flags witness w
-      unfolding may_be_next
-      next_open e f = f ∙ rw (not-false (get_or flags w false) u, other, ← ek, e) refl
 
 -- The tests together
 
@@ -77,7 +56,7 @@ all_true true true true d e f = absurd (false≢true f)
 all_true true true false false e f = absurd (false≢true f)
 all_true true true false true e f = refl
 
-module _ {list table : List ℕ} {flags : List Bool} {witness : List ℕ} {w : ℕ} (A : Adjacent list table) (W : Witnesses list flags witness) (h : w < (station_of list).parts)
+module _ {list : List ℕ} {table : List Neighbours} {flags : List Bool} {witness : List ℕ} {w : ℕ} (A : Adjacent list table) (W : Witnesses list flags witness) (h : w < (station_of list).parts)
     {r : Bool} (er : r ≡ may_be_next list table flags witness w) where
   -- what remains without w
   abbrev rest : List ℕ
@@ -114,8 +93,8 @@ module _ {list table : List ℕ} {flags : List Bool} {witness : List ℕ} {w : �
       (connected (station_of list).cables rest) (sym er ∙ not-false r e))
 
   -- after the walk
-  pub eligible_none : {found : Found} → not r ≡ false → CutOff list (without w (set_of list flags)) found → found ≡ Nothing → true ≡ eligible list flags w
+  pub eligible_none : {found : Option ℕ} → not r ≡ false → CutOff list (without w (set_of list flags)) found → found ≡ None → true ≡ eligible list flags w
   eligible_none e C f = sym (not-false (connected (station_of list).cables rest) (sym C.test ∙ ap is_found f)) ∙ eligible_walk e
 
-  pub eligible_cut : {found : Found} {q : ℕ} → not r ≡ false → CutOff list (without w (set_of list flags)) found → found ≡ At q → false ≡ eligible list flags w
+  pub eligible_cut : {found : Option ℕ} {q : ℕ} → not r ≡ false → CutOff list (without w (set_of list flags)) found → found ≡ Some q → false ≡ eligible list flags w
   eligible_cut e C f = sym (not-true (connected (station_of list).cables rest) (sym C.test ∙ ap is_found f)) ∙ eligible_walk e

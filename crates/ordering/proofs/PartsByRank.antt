@@ -1,4 +1,5 @@
 -- Laws of the parts by rank as they are chosen: the lowest that passes, and the order up to a rank. Assumes nothing.
+use Rattle.std.specs.Prelude.{Option, Some, None}
 use Prim.Native.Nat.{ℕ, zero, suc, ◌+◌, ◌-◌, ◌<◌, ◌≤◌}
 use native.Mathlib.Omega.{arith}
 use native.Mathlib.Numerals.{add-one}
@@ -7,26 +8,24 @@ use mathlib.Core.Path.{◌≡◌, refl, sym, ap, ◌∙◌, subst}
 use mathlib.Core.Logic.{◌⊎◌, inl, inr}
 use mathlib.Core.Bool.{Bool, true, false, cond, ◌&&◌}
 use mathlib.Core.List.{List, [], ◌∷◌, ◌++◌, append_assoc, append-nil}
-use lib.ListN.{length, get_or, take, set, replicate, length-set, length-map, length-replicate, get_or-map}
+use lib.ListN.{length, get_or, take, set, replicate, length-set, length-replicate}
 use lib.Seq.{get_or-set_same, get_or-set_other, take-suc-set}
 use Rattle.words.specs.Limits.{most_parts}
-use Rattle.lists.specs.declared.Found.{Found}
-use Rattle.lists.specs.declared.Found.TheVariants.{At, Nothing}
 use Rattle.lists.specs.Search.{seek, place_or}
 use Rattle.lists.specs.Select.{up_from, range, cons_if, filter, without}
-use Rattle.lists.proofs.Seek.{First, None, seek_cases}
+use Rattle.lists.proofs.Seek.{First, NoneOf, seek_cases}
 use Rattle.lists.proofs.Seeking.{Seeking, seeking_next, seeking_at, seeking_end}
 use Rattle.lists.proofs.Slices.{replicate_below}
-use Rattle.lists.proofs.Kept.{map_set, map_replicate}
+use Rattle.lists.proofs.Kept.{map_replicate}
 use Rattle.words.specs.declared.Part.{Part}
 use Rattle.station.specs.Station.{station_of}
 use Rattle.station.specs.Code.{Wired}
 use Rattle.order.specs.Order.{first_or, extend, order}
 use Rattle.ordering.specs.Numbers.{part_numbers}
 use Rattle.reachability.specs.Tables.{flagged, set_of}
-use Rattle.ordering.specs.Choices.{Witnesses, eligible, chosen_part}
+use Rattle.ordering.specs.Choices.{eligible, chosen_part}
 use Rattle.reachability.proofs.Flags.{without_flagged, flagged_all}
-use Rattle.ordering.proofs.Witnesses.{witness_start, witness_ranked}
+use Rattle.ordering.proofs.Numbers.{numbers_set, numbers_length}
 
 -- The lowest that passes
 
@@ -36,7 +35,7 @@ first_or_seek d p f i zero = refl
 first_or_seek d p f i (suc k) = go (f i) (p i) refl (first_or_seek d p f (i + 1) k)
   where
     go : (a b : Bool) → p i ≡ b → place_or d (seek (λ x. f x && p x) (i + 1) k) ≡ first_or d p (filter f (up_from (i + 1) k))
-        → place_or d (cond (a && b) (At i) (seek (λ x. f x && p x) (i + 1) k)) ≡ first_or d p (cons_if a i (filter f (up_from (i + 1) k)))
+        → place_or d (cond (a && b) (Some i) (seek (λ x. f x && p x) (i + 1) k)) ≡ first_or d p (cons_if a i (filter f (up_from (i + 1) k)))
     go false b h e = e
     go true false h e = rw h e
     go true true h e = rw h refl
@@ -51,7 +50,7 @@ module _ (list : List ℕ) (flags : List Bool) {n w : ℕ} (S : Seeking (eligibl
   chosen_next h e f = seeking_next S h (sym e ∙ f)
 
   module _ (c : n ≡ (station_of list).parts) where
-    to_chosen : {r : Found} → r ≡ seek (eligible list flags) 0 n → place_or (station_of list).analyser r ≡ chosen_part list flags
+    to_chosen : {r : Option ℕ} → r ≡ seek (eligible list flags) 0 n → place_or (station_of list).analyser r ≡ chosen_part list flags
     to_chosen e = ap (place_or (station_of list).analyser) (rw c at e) ∙ chosen_seek list flags
 
     pub chosen_at : {r : Bool} → w < n → r ≡ eligible list flags w → r ≡ true → w ≡ chosen_part list flags
@@ -63,11 +62,10 @@ module _ (list : List ℕ) (flags : List Bool) {n w : ℕ} (S : Seeking (eligibl
 -- The order as it is made
 
 -- the parts ranked so far, and the rest of the order from those that are unranked
-pub record Ordering (list : List ℕ) (part : List Part) (witness : List ℕ) (flags : List Bool) (k : ℕ) : Type 0 where
+pub record Ordering (list : List ℕ) (part : List Part) (flags : List Bool) (k : ℕ) : Type 0 where
   pub places : length part ≡ most_parts
   pub inside : (j : ℕ) → get_or (part_numbers part) j 0 < most_parts
   pub ranked : k ≤ (station_of list).parts
-  pub witnesses : Witnesses list flags witness
   pub rest : take k (part_numbers part) ++ extend (station_of list).cables (station_of list).analyser ((station_of list).parts - k) (set_of list flags) ≡ order (station_of list)
 
 extend_next : (list : List ℕ) (flags : List Bool) (k w : ℕ) → k < (station_of list).parts → w ≡ chosen_part list flags
@@ -83,8 +81,8 @@ extend_next list flags k w h e =
 chosen_inside : (list : List ℕ) → Wired (station_of list) → (flags : List Bool) → chosen_part list flags < (station_of list).parts
 chosen_inside list W flags = subst (λ (x : ℕ). x < (station_of list).parts) (chosen_seek list flags) (go (seek_cases (eligible list flags) 0 (station_of list).parts))
   where
-    go : ((x : ℕ) × (seek (eligible list flags) 0 (station_of list).parts ≡ At x) × First (eligible list flags) 0 (station_of list).parts x)
-        ⊎ ((seek (eligible list flags) 0 (station_of list).parts ≡ Nothing) × None (eligible list flags) 0 (station_of list).parts)
+    go : ((x : ℕ) × (seek (eligible list flags) 0 (station_of list).parts ≡ Some x) × First (eligible list flags) 0 (station_of list).parts x)
+        ⊎ ((seek (eligible list flags) 0 (station_of list).parts ≡ None) × NoneOf (eligible list flags) 0 (station_of list).parts)
         → place_or (station_of list).analyser (seek (eligible list flags) 0 (station_of list).parts) < (station_of list).parts
     go (inl f) = rw f.1 (omega (arith, f.2.below))
     go (inr f) = rw f.0 W.analyser
@@ -93,44 +91,29 @@ pub chosen_below : (list : List ℕ) (flags : List Bool) {w : ℕ} → Wired (st
 chosen_below list flags W e = omega (arith, e, chosen_inside list W flags, W.most)
 
 pub ordering_start : {list : List ℕ} {s : Part} → Wired (station_of list) → s.0 ≡ (station_of list).source
-    → Ordering list (replicate most_parts s) (replicate most_parts s.0) (set (replicate most_parts true) s.0 false) 1
+    → {flags : List Bool} → flags ≡ set (replicate most_parts true) (station_of list).source false → Ordering list (replicate most_parts s) flags 1
 unfolding order part_numbers
-ordering_start {list} {s} W e =
-    record {
+ordering_start {list} {s} W e same =
+    subst (λ (f : List Bool). Ordering list (replicate most_parts s) f 1) (sym (same ∙ ap (λ (x : ℕ). set (replicate most_parts true) x false) (sym e)))
+    (record {
       places = length-replicate most_parts s;
       inside = λ j. subst (λ (l : List ℕ). get_or l j 0 < most_parts) (sym (map_replicate (λ (p : Part). p.0) most_parts s)) (replicate_below most_parts s.0 most_parts j (omega (arith, W.source, W.most)));
       ranked = omega (arith, W.least);
-      witnesses = witness_start W s.0 (omega (arith, W.source));
       rest =
           ap (λ (l : List ℕ). s.0 ∷ extend (station_of list).cables (station_of list).analyser ((station_of list).parts - 1) l)
           (sym (without_flagged (station_of list).parts (replicate most_parts true) s.0) ∙ ap (without s.0) (flagged_all (station_of list).parts W.most))
           ∙ ap (λ (x : ℕ). x ∷ extend (station_of list).cables (station_of list).analyser ((station_of list).parts - 1) (without x (range (station_of list).parts))) e;
-    }
+    })
 
-numbers_set : (part : List Part) (k : ℕ) (w : Part) → part_numbers (set part k w) ≡ set (part_numbers part) k w.0
-unfolding part_numbers
-numbers_set part k w = map_set (λ (p : Part). p.0) part k w
-
-pub numbers_length : (part : List Part) → length (part_numbers part) ≡ length part
-unfolding part_numbers
-numbers_length part = length-map part (λ (p : Part). p.0)
-
-pub part_number : (part : List Part) (k : ℕ) → (get_or part k (record { 0 = 0 })).0 ≡ get_or (part_numbers part) k 0
-unfolding part_numbers
-part_number part k = sym (get_or-map (λ (p : Part). p.0) part k (record { 0 = 0 }))
-
-pub number_below : (part : List Part) → ((k : ℕ) → get_or (part_numbers part) k 0 < most_parts) → (k : ℕ) → (get_or part k (record { 0 = 0 })).0 < most_parts
-number_below part below k = omega (arith, part_number part k, below k)
-
-module _ {list witness : List ℕ} {part : List Part} {flags : List Bool} {n k : ℕ} (O : Ordering list part witness flags k) (c : n ≡ (station_of list).parts) where
-  pub ordering_next : {witness' : List ℕ} {w : Part} → Wired (station_of list) → k < n → w.0 ≡ chosen_part list flags → Witnesses list flags witness'
-      → Ordering list (set part k w) witness' (set flags w.0 false) (k + 1)
-  ordering_next {witness'} {w} W h e N =
-      record {
+module _ {list : List ℕ} {part : List Part} {flags : List Bool} {n k : ℕ} (O : Ordering list part flags k) (c : n ≡ (station_of list).parts) where
+  pub ordering_next : {w : Part} → Wired (station_of list) → k < n → w.0 ≡ chosen_part list flags → {flags' : List Bool} → flags' ≡ set flags w.0 false
+      → Ordering list (set part k w) flags' (k + 1)
+  ordering_next {w} W h e same =
+      subst (λ (f : List Bool). Ordering list (set part k w) f (k + 1)) (sym same)
+      (record {
         places = length-set part k w ∙ O.places;
         inside = λ j. rw (numbers_set part k w) (inside_at j (ℕ_discrete j k));
         ranked = omega arith;
-        witnesses = witness_ranked N w.0;
         rest =
             ap (λ (l : List ℕ). take (k + 1) l ++ later) (numbers_set part k w)
             ∙ ap (λ (j : ℕ). take j (set (part_numbers part) k w.0) ++ later) (add-one k)
@@ -138,7 +121,7 @@ module _ {list witness : List ℕ} {part : List Part} {flags : List Bool} {n k :
             ∙ append_assoc (take k (part_numbers part)) (w.0 ∷ []) later
             ∙ ap (λ (l : List ℕ). take k (part_numbers part) ++ l) (extend_next list flags k w.0 (omega arith) e)
             ∙ O.rest;
-      }
+      })
     where
       room : k < length (part_numbers part)
       room = omega (arith, numbers_length part, O.places, W.most)

@@ -1,5 +1,6 @@
 -- Laws of the separation witnesses: a part that is separated from t stays so as the unranked parts get fewer. Assumes nothing.
-use Prim.Native.Nat.{ℕ, ◌^◌, ◌<◌}
+use Rattle.std.specs.Prelude.{Option, Some}
+use Prim.Native.Nat.{ℕ, ◌<◌}
 use native.Mathlib.Omega.{arith}
 use native.Mathlib.Decide.{ℕ_discrete}
 use mathlib.Core.Path.{◌≡◌, sym, ◌∙◌, subst}
@@ -8,8 +9,6 @@ use mathlib.Core.List.{List, Memᴰ}
 use lib.ListN.{get_or, set, replicate, length-set, length-replicate, get_or-replicate}
 use lib.Seq.{get_or-set_same, get_or-set_other}
 use Rattle.words.specs.Limits.{most_parts}
-use Rattle.lists.specs.declared.Found.{Found}
-use Rattle.lists.specs.declared.Found.TheVariants.{At}
 use Rattle.lists.specs.Select.{without}
 use Rattle.lists.proofs.Bools.{and_e}
 use Rattle.lists.proofs.Sets.{without_e, without_i}
@@ -17,14 +16,18 @@ use Rattle.lists.proofs.Slices.{replicate_below}
 use Rattle.station.specs.Station.{station_of}
 use Rattle.station.specs.Code.{Wired}
 use Rattle.reachability.specs.Tables.{set_of, CutOff}
+use Rattle.lists.proofs.Kept.{map_set, map_replicate}
+use Rattle.words.specs.declared.Part.{Part}
+use Rattle.ordering.specs.Numbers.{part_numbers}
+use Rattle.ordering.proofs.Numbers.{part_number}
 use Rattle.ordering.specs.Choices.{Separates, Witnesses, known_separator}
 use Rattle.order.proofs.Paths.{path_wider}
 use Rattle.order.proofs.Reach.{AllJoined}
 use Rattle.reachability.proofs.Flags.{cleared, flagged_e, flagged_i, without_flagged}
 
 -- At the start s stands beside every part, and is ranked.
-pub witness_start : {list : List ℕ} → Wired (station_of list) → (s : ℕ) → s < (station_of list).parts → Witnesses list (set (replicate most_parts true) s false) (replicate most_parts s)
-witness_start {list} D s h =
+witness_all : {list : List ℕ} → Wired (station_of list) → (s : ℕ) → s < (station_of list).parts → Witnesses list (set (replicate most_parts true) s false) (replicate most_parts s)
+witness_all {list} D s h =
     record { places = length-replicate most_parts s; inside = λ w. replicate_below most_parts s (station_of list).parts w h; separated = λ w m n. absurd (gone w m n) }
   where
     others : List ℕ
@@ -36,17 +39,13 @@ witness_start {list} D s h =
         false≢true (sym (cleared (replicate most_parts true) s) ∙ (flagged_e _ _ (subst (λ (x : ℕ). Memᴰ x others) e n)).1)
 
 module _ {list : List ℕ} {flags : List Bool} {witness : List ℕ} (W : Witnesses list flags witness) where
-  -- a witness as an index
-  pub witness_below : Wired (station_of list) → (w : ℕ) → get_or witness w 0 < most_parts
+  witness_below : Wired (station_of list) → (w : ℕ) → get_or witness w 0 < most_parts
   witness_below D w = omega (arith, W.inside w, D.most)
 
-  pub witness_fits : Wired (station_of list) → (w : ℕ) → get_or witness w 0 < 2 ^ 64
-  witness_fits D w = omega (arith, witness_below D w)
-
   -- a part that w cuts off becomes its witness
-  pub witness_found : {w q : ℕ} {found : Found} → Wired (station_of list) → w < (station_of list).parts → CutOff list (without w (set_of list flags)) found → found ≡ At q
+  witness_stored : {w q : ℕ} {found : Option ℕ} → Wired (station_of list) → w < (station_of list).parts → CutOff list (without w (set_of list flags)) found → found ≡ Some q
       → Witnesses list flags (set witness w q)
-  witness_found {w} {q} {found} D h C e =
+  witness_stored {w} {q} {found} D h C e =
       record {
         places = length-set witness w q ∙ W.places;
         inside = λ x. inside_at x (ℕ_discrete x w);
@@ -99,3 +98,20 @@ module _ {list : List ℕ} {flags : List Bool} {witness : List ℕ} (W : Witness
 
       S : Separates list flags w (get_or witness w 0)
       S = W.separated w (flagged_i _ _ w h fw) mq
+
+-- the same of the parts that the code holds
+pub witness_start : {list : List ℕ} (s : Part) → Wired (station_of list) → s.0 < (station_of list).parts
+    → Witnesses list (set (replicate most_parts true) s.0 false) (part_numbers (replicate most_parts s))
+unfolding part_numbers
+witness_start s D h = rw (map_replicate (λ (p : Part). p.0) most_parts s) (witness_all D s.0 h)
+
+pub witness_found : {list : List ℕ} {flags : List Bool} (witness : List Part) {w : ℕ} {q : Part} {found : Option ℕ} → Witnesses list flags (part_numbers witness)
+    → Wired (station_of list) → w < (station_of list).parts → CutOff list (without w (set_of list flags)) found → found ≡ Some q.0
+    → Witnesses list flags (part_numbers (set witness w q))
+unfolding part_numbers
+witness_found witness {w} {q} W D h C e = rw (map_set (λ (p : Part). p.0) witness w q) (witness_stored W D h C e)
+
+-- a witness as an index
+pub witness_at : {list : List ℕ} {flags : List Bool} (witness : List Part) (w : ℕ) → Witnesses list flags (part_numbers witness) → Wired (station_of list)
+    → (get_or witness w (record { 0 = 0 })).0 < most_parts
+witness_at witness w W D = omega (arith, part_number witness w, witness_below W D w)

@@ -7,6 +7,7 @@ use Rattle.lists.specs.Select.{without}
 use Rattle.station.specs.Station.{station_of}
 use Rattle.order.specs.Reach.{Path}
 use Rattle.order.specs.Order.{candidate, first_or}
+use Rattle.reachability.specs.declared.adjacency.Neighbours.{Neighbours}
 use Rattle.reachability.specs.Tables.{has_neighbour, set_of}
 
 -- w separates q from t among the unranked parts: q is another part, and without w has no path to t
@@ -26,7 +27,7 @@ unfoldable pub known_separator : List ℕ → List Bool → List ℕ → ℕ →
 known_separator list unranked witness w = get_or unranked (station_of list).analyser false && get_or unranked (get_or witness w 0) false
 
 -- the tests of a candidate that need no walk; it 'is joined to a ranked part' where a neighbour is not unranked
-unfoldable pub may_be_next : List ℕ → List ℕ → List Bool → List ℕ → ℕ → Bool
+unfoldable pub may_be_next : List ℕ → List Neighbours → List Bool → List ℕ → ℕ → Bool
 may_be_next list table unranked witness w =
     get_or unranked w false && not (eqb w (station_of list).analyser)
     && not (known_separator list unranked witness w) && has_neighbour table unranked w false

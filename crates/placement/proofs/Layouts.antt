@@ -21,8 +21,9 @@ use Rattle.layout.specs.Points.{Course, points_of, row, part_spot, rank_spot}
 use Rattle.layout.specs.Layout.{drawn_in, layout}
 use Rattle.layout.specs.Over.{courses_cross}
 use Rattle.layout.specs.Courses.{LengthFits}
-use Rattle.placement.specs.Arrays.{course_in, no_course, IsLayout, layout_in}
-use Rattle.ranking.proofs.GraphArrays as of-graph
+use Rattle.placement.specs.Laid.{course_in, no_course}
+use Rattle.placement.specs.Arrays.{IsLayout, layout_in}
+use Rattle.ranking.proofs.GraphArrays.{graph_fits, lines_count}
 use Rattle.layout.proofs.ExtraRows.{bottom_rows_le, top_rows_le}
 use Rattle.layout.proofs.Drawn.{parts_count, routes_count, spot_of_lem, points_at_lem, meets, pair_crosses, parts_le, words_count, length_fits}
 
@@ -30,11 +31,15 @@ use Rattle.layout.proofs.Drawn.{parts_count, routes_count, spot_of_lem, points_a
 abbrev pub course_at : Layout → ℕ → code-course.Course
 course_at l i = get_or l.courses i no_course
 
--- What the code knows of a layout that it is handed, by its type.
-abbrev pub AllPlaces : Layout → Type 0
-AllPlaces l = of-graph.AllPlaces l.graph
+-- what holds of every layout, by its type
+pub is_layout : (l : Layout) → IsLayout l
+is_layout l = let L = l.is_laid_out in
+    record { fits = graph_fits l.graph; columns = L.all_columns; bottom = L.bottom_row; top = L.top_row; courses = L.all_courses }
 
-module _ (l : Layout) (L : IsLayout l) where
+module _ (l : Layout) where
+  L : IsLayout l
+  L = is_layout l
+
   abbrev G : StGraph
   G = graph_in l.graph
 
@@ -62,49 +67,48 @@ module _ (l : Layout) (L : IsLayout l) where
   pub layout_meets : Meets (layout_in l)
   layout_meets = meets G ranked
 
-  module _ (room : AllPlaces l) where
-    pub lines : size G ≡ l.graph.cables
-    lines = sym (of-graph.lines_are L.fits room)
+  pub lines : size G ≡ l.graph.cables
+  lines = sym (lines_count l.graph)
 
-    pub inside : (i : ℕ) → i < l.graph.cables → i < size G
-    inside i h = omega (arith, lines)
+  pub inside : (i : ℕ) → i < l.graph.cables → i < size G
+  inside i h = omega (arith, lines)
 
-    -- Sizes
+  -- Sizes
 
-    pub word_count : (s : Spacing) → length (sheet_words s (layout_in l)) + l.graph.parts ≡ 4 * l.graph.cables + 4 + l.bottom_rows + l.top_rows
-    word_count s = omega (arith, words_count G ranked L.fits.least s, lines, L.bottom, L.top)
+  pub word_count : (s : Spacing) → length (sheet_words s (layout_in l)) + l.graph.parts ≡ 4 * l.graph.cables + 4 + l.bottom_rows + l.top_rows
+  word_count s = omega (arith, words_count G ranked L.fits.least s, lines, L.bottom, L.top)
 
-    pub parts_few : l.graph.parts ≤ l.graph.cables + 1
-    parts_few = omega (arith, parts_le G ranked L.fits.least, lines)
+  pub parts_few : l.graph.parts ≤ l.graph.cables + 1
+  parts_few = omega (arith, parts_le G ranked L.fits.least, lines)
 
-    pub width_is : (layout_in l).width ≡ l.graph.cables + 1 - l.graph.parts
-    unfolding layout drawn_in
-    width_is = ap (λ (m : ℕ). m + 1 - l.graph.parts) lines
+  pub width_is : (layout_in l).width ≡ l.graph.cables + 1 - l.graph.parts
+  unfolding layout drawn_in
+  width_is = ap (λ (m : ℕ). m + 1 - l.graph.parts) lines
 
-    pub height_is : (layout_in l).height ≡ l.graph.parts - 1 + l.bottom_rows + l.top_rows
-    unfolding layout drawn_in
-    height_is = ap₂ (λ (d e : ℕ). l.graph.parts - 1 + d + e) (sym L.bottom) (sym L.top)
+  pub height_is : (layout_in l).height ≡ l.graph.parts - 1 + l.bottom_rows + l.top_rows
+  unfolding layout drawn_in
+  height_is = ap₂ (λ (d e : ℕ). l.graph.parts - 1 + d + e) (sym L.bottom) (sym L.top)
 
-    -- Cables by line
+  -- Cables by line
 
-    pub route_count : length (layout_in l).routes ≡ l.graph.cables
-    route_count = routes_count G ∙ lines
+  pub route_count : length (layout_in l).routes ≡ l.graph.cables
+  route_count = routes_count G ∙ lines
 
-    -- Lengths
+  -- Lengths
 
-    pub length_small : (i : ℕ) → i < l.graph.cables → LengthFits (course_in (course_at l i))
-    length_small i h =
-        subst (λ (c : Course). LengthFits c) (sym (L.courses i h)) (length_fits G ranked L.fits.least L.fits.most i (inside i h))
+  pub length_small : (i : ℕ) → i < l.graph.cables → LengthFits (course_in (course_at l i))
+  length_small i h =
+      subst (λ (c : Course). LengthFits c) (sym (L.courses i h)) (length_fits G ranked L.fits.least L.fits.most i (inside i h))
 
-    pub length_is :
-        (i : ℕ) → i < l.graph.cables → line_length (points_of (course_in (course_at l i))) ≡ line_length (points_at (layout_in l) i)
-    length_is i h = ap (λ (c : Course). line_length (points_of c)) (L.courses i h) ∙ ap line_length (points_at_lem G ranked i (inside i h))
+  pub length_is :
+      (i : ℕ) → i < l.graph.cables → line_length (points_of (course_in (course_at l i))) ≡ line_length (points_at (layout_in l) i)
+  length_is i h = ap (λ (c : Course). line_length (points_of c)) (L.courses i h) ∙ ap line_length (points_at_lem G ranked i (inside i h))
 
-    -- Crossings
+  -- Crossings
 
-    pub cross_is :
-        (a b : ℕ) → a < b → b < l.graph.cables
-        → courses_cross (course_in (course_at l a)) (course_in (course_at l b)) ≡ cross_pair (layout_in l) (route_at (layout_in l) a) (route_at (layout_in l) b)
-    cross_is a b h g =
-        let f : a < l.graph.cables = omega arith in
-        ap₂ courses_cross (L.courses a f) (L.courses b g) ∙ sym (pair_crosses G ranked a b (inside a f) (inside b g) (λ e. omega arith))
+  pub cross_is :
+      (a b : ℕ) → a < b → b < l.graph.cables
+      → courses_cross (course_in (course_at l a)) (course_in (course_at l b)) ≡ cross_pair (layout_in l) (route_at (layout_in l) a) (route_at (layout_in l) b)
+  cross_is a b h g =
+      let f : a < l.graph.cables = omega arith in
+      ap₂ courses_cross (L.courses a f) (L.courses b g) ∙ sym (pair_crosses G ranked a b (inside a f) (inside b g) (λ e. omega arith))

@@ -1,6 +1,5 @@
--- Laws of a layout in code: the arrays (ArrayLengths), one more rank (Opening, Standing), the courses (Lanes), and what all of it says of
+-- Laws of a layout in code: one more rank (Opening, Standing), the courses (Lanes), and what all of it says of
 -- its drawing (Layouts). Assumes nothing.
-pub mod ArrayLengths
 pub mod Opening
 pub mod Standing
 pub mod Lanes

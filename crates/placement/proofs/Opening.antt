@@ -1,30 +1,30 @@
 -- The outgoing cables of a rank get their columns one after the other: each of them has its own then, and every other cable keeps what it
 -- had. Assumes nothing.
-use Prim.Native.Nat.{ℕ, zero, suc, ◌<◌, ◌≤◌}
+use Prim.Native.Nat.{ℕ, zero, suc, ◌+◌, ◌<◌, ◌≤◌}
+use native.Mathlib.Numerals.{add-one}
 use native.Mathlib.Omega.{arith}
 use native.Mathlib.Decide.{ℕ_discrete}
 use mathlib.Core.Path.{◌≡◌, refl, sym, ap, ◌∙◌}
-use mathlib.Core.Bool.{Bool, true, cond}
+use mathlib.Core.Bool.{cond}
 use mathlib.Core.List.{List, [], ◌∷◌, map}
-use lib.ListN.{length, get_or, take, set, length-map, length-take}
-use lib.Seq.{get_or-take}
-use lib.Dec.{eqb, ltb}
-use borrow.Author.Tests.{ltb-true, eq-eqb, ne_eqb}
+use lib.ListN.{length, get_or, take, set, length-map, get_or-map}
+use lib.Seq.{get_or-take, take_all}
+use lib.Dec.{eqb}
+use borrow.Author.Tests.{eq-eqb, ne_eqb}
 use Rattle.lists.specs.Select.{tabulate, index_of}
 use Rattle.lists.specs.Stores.{set_each}
 use Rattle.lists.proofs.Select.{get_d_mem, get_d_map}
-use Rattle.lists.proofs.Maps.{map_take}
 use Rattle.lists.proofs.Fill.{tabulate_of}
 use Rattle.lists.proofs.SetEach.{length_set_each, set_each_other, set_each_there}
 use Rattle.order.specs.Graph.{StGraph, size, lower}
 use Rattle.incidence.specs.declared.incident.Keyed.{Keyed}
 use Rattle.incidence.specs.declared.incident.Incident.{Incident}
-use Rattle.ports.specs.declared.figures.PortRow.{PortRow}
+use Rattle.ports.specs.declared.figures.Port.{Port}
 use Rattle.ports.specs.declared.figures.Placement.{Placement}
+use Rattle.ports.specs.Placements.{port_in}
 use Rattle.layout.specs.Ports.{port_column}
 use Rattle.layout.specs.Columns.{outgoing}
 use Rattle.incidence.specs.Incidents.{held, line_in, lines_in}
-use Rattle.ports.specs.Placements.{port_row, ports_in}
 use Rattle.placement.specs.Placements.{Opens, column_by, port_columns}
 use Rattle.layout.proofs.Step.{outgoing_e, outgoing_i, distinct_outgoing}
 
@@ -42,62 +42,52 @@ opened_cables G k vs xs f e long =
     go i h (no q) =
         rw (ne_eqb (lower G i) k q) (set_each_other (outgoing G k) vs (map f xs) i (λ m. q (outgoing_e G k m).1) ∙ get_d_map f xs i 0 0 (omega arith))
 
--- The four places of the code, one after the other
+-- The cables that are opened so far, and one more
 
-pub opens_line : {m : ℕ} {o : Incident} {p : Placement} → Opens m o p → (j : ℕ) → ltb j o.count ≡ true
-    → get_or (o.first.line ∷ o.second.line ∷ o.third.line ∷ o.fourth.line ∷ []) j 0 < m
-opens_line {m} {o} h j e = h.below j (ltb-true j o.count e)
-
-abbrev pub store_if : Bool → ℕ → ℕ → List ℕ → List ℕ
-store_if is i v xs = cond is (set xs i v) xs
-
-four_stores :
-    (n : ℕ) (a b c d : Keyed) (p : Placement) (xs : List ℕ) → n ≤ 4
-    → store_if (ltb 3 n) d.line (column_by p p.ports.fourth)
-    (store_if (ltb 2 n) c.line (column_by p p.ports.third)
-    (store_if (ltb 1 n) b.line (column_by p p.ports.second) (store_if (ltb 0 n) a.line (column_by p p.ports.first) xs)))
-    ≡ set_each (map line_in (take n (a ∷ b ∷ c ∷ d ∷ [])))
-    (map (port_column p.column p.left) (port_row n p.ports.first p.ports.second p.ports.third p.ports.fourth)) xs
+pub opened_none : (is vs xs : List ℕ) → xs ≡ set_each (take 0 is) (take 0 vs) xs
 unfolding set_each
-four_stores zero a b c d p xs h = refl
-four_stores (suc zero) a b c d p xs h = refl
-four_stores (suc (suc zero)) a b c d p xs h = refl
-four_stores (suc (suc (suc zero))) a b c d p xs h = refl
-four_stores (suc (suc (suc (suc zero)))) a b c d p xs h = refl
-four_stores (suc (suc (suc (suc (suc n))))) a b c d p xs h = absurd (omega arith)
+opened_none is vs xs = refl
 
-pub opens_set :
-    {m : ℕ} {o : Incident} {p : Placement} (xs : List ℕ) {xs₁ xs₂ xs₃ xs₄ : List ℕ} → Opens m o p
-    → xs₁ ≡ store_if (ltb 0 o.count) o.first.line (column_by p p.ports.first) xs
-    → xs₂ ≡ store_if (ltb 1 o.count) o.second.line (column_by p p.ports.second) xs₁
-    → xs₃ ≡ store_if (ltb 2 o.count) o.third.line (column_by p p.ports.third) xs₂
-    → xs₄ ≡ store_if (ltb 3 o.count) o.fourth.line (column_by p p.ports.fourth) xs₃
-    → xs₄ ≡ set_each (lines_in o) (port_columns p) xs
-unfolding held
-opens_set {m} {o} {p} xs h e f g i =
-    let n = o.count in
-    i
-    ∙ ap (λ (ys : List ℕ). store_if (ltb 3 n) o.fourth.line (column_by p p.ports.fourth) ys)
-    (g
-    ∙ ap (λ (ys : List ℕ). store_if (ltb 2 n) o.third.line (column_by p p.ports.third) ys)
-    (f ∙ ap (λ (ys : List ℕ). store_if (ltb 1 n) o.second.line (column_by p p.ports.second) ys) e))
-    ∙ four_stores n o.first o.second o.third o.fourth p xs h.most
-    ∙ rw h.ports
+more : (is vs xs : List ℕ) (i : ℕ) → i < length is → i < length vs
+    → set (set_each (take i is) (take i vs) xs) (get_or is i 0) (get_or vs i 0) ≡ set_each (take (suc i) is) (take (suc i) vs) xs
+unfolding set_each
+more [] vs xs i h g = absurd (omega arith)
+more (k ∷ is) [] xs i h g = absurd (omega arith)
+more (k ∷ is) (v ∷ vs) xs zero h g = refl
+more (k ∷ is) (v ∷ vs) xs (suc i) h g = more is vs (set xs k v) i (omega arith) (omega arith)
 
--- What the code asks of the cables that it opens
+module _ {m : ℕ} {o : Incident} {p : Placement} (h : Opens m o p) where
+  columns_count : length (port_columns p) ≡ o.count
+  columns_count = length-map (map port_in p.ports.now) (port_column p.column p.left) ∙ length-map p.ports.now port_in ∙ h.ports
 
-pub row_length : (r : PortRow) → r.count ≤ 4 → length (ports_in r) ≡ r.count
-row_length r h = omega (arith, length-take r.count (port_row 4 r.first r.second r.third r.fourth))
+  -- the line at a place
+  module _ (i : ℕ) (b : i < o.count) where
+    line_read : (none : Keyed) → none.line ≡ 0 → (get_or o.places i none).line ≡ get_or (lines_in o) i 0
+    line_read none e = sym (ap (λ (d : ℕ). get_or (lines_in o) i d) (sym e) ∙ get_or-map line_in (held o) i none ∙ ap line_in (get_or-take o.count o.places i none b))
 
-pub line_below :
-    (G : StGraph) (k : ℕ) (o : Incident) (j : ℕ) → j < o.count → lines_in o ≡ outgoing G k → o.count ≡ length (outgoing G k)
-    → get_or (o.first.line ∷ o.second.line ∷ o.third.line ∷ o.fourth.line ∷ []) j 0 < size G
-unfolding held
-line_below G k o j h e c =
-    let l = o.first ∷ o.second ∷ o.third ∷ o.fourth ∷ [] in
-    omega (
-      arith,
-      get_or-take o.count (map line_in l) j 0 h,
-      ap (λ (t : List ℕ). get_or t j 0) (sym (map_take line_in o.count l) ∙ e),
-      (outgoing_e G k (get_d_mem (outgoing G k) j 0 (omega arith))).0,
-    )
+    pub line_below : (none : Keyed) → none.line ≡ 0 → (get_or o.places i none).line < m
+    line_below none e = omega (arith, line_read none e, h.below i b)
+
+    column_read : (q : Port) → column_by p (get_or p.ports.now i q) ≡ get_or (port_columns p) i 0
+    column_read q =
+        let b' : i < length (map port_in p.ports.now) = omega (arith, h.ports, length-map p.ports.now port_in) in
+        sym (get_d_map (port_column p.column p.left) (map port_in p.ports.now) i (port_in q) 0 b' ∙ ap (port_column p.column p.left) (get_or-map port_in p.ports.now i q))
+
+    pub opened_more :
+        (xs : List ℕ) {ys : List ℕ} {v : ℕ} (none : Keyed) (q : Port) → none.line ≡ 0 → v ≡ column_by p (get_or p.ports.now i q)
+        → ys ≡ set_each (take i (lines_in o)) (take i (port_columns p)) xs
+        → set ys (get_or o.places i none).line v ≡ set_each (take (i + 1) (lines_in o)) (take (i + 1) (port_columns p)) xs
+    opened_more xs none q e f s =
+        rw (add-one, s, line_read none e, f, column_read q)
+        (more (lines_in o) (port_columns p) xs i (omega (arith, h.lines)) (omega (arith, columns_count)))
+
+  pub opened_all : (xs : List ℕ) {ys : List ℕ} (i : ℕ) → o.count ≤ i → ys ≡ set_each (take i (lines_in o)) (take i (port_columns p)) xs
+      → ys ≡ set_each (lines_in o) (port_columns p) xs
+  opened_all xs i b s =
+      rw (take_all i (lines_in o) (omega (arith, h.lines)), take_all i (port_columns p) (omega (arith, columns_count))) at s
+
+-- The lines of the cables that go out
+
+pub lines_below : (G : StGraph) (k m : ℕ) (o : Incident) → m ≡ size G → lines_in o ≡ outgoing G k → o.count ≡ length (outgoing G k)
+    → (j : ℕ) → j < o.count → get_or (lines_in o) j 0 < m
+lines_below G k m o q e c j h = rw e (omega (arith, (outgoing_e G k (get_d_mem (outgoing G k) j 0 (omega arith))).0))

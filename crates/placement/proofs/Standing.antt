@@ -2,31 +2,32 @@
 use Prim.Native.Nat.{ℕ, ◌+◌, ◌*◌, ◌<◌, ◌≤◌}
 use native.Mathlib.Omega.{arith}
 use native.Mathlib.Numerals.{add-one}
-use mathlib.Core.Path.{◌≡◌, refl, sym, ap, ◌∙◌}
+use mathlib.Core.Path.{◌≡◌, refl, sym, ap, subst, ◌∙◌}
 use mathlib.Core.List.{List, [], ◌∷◌, ◌++◌, map}
 use lib.ListN.{length, get_or, take, replicate, length-map}
-use lib.Seq.{get_or-take}
+use lib.Seq.{get_or-take, take_at}
 use Rattle.words.specs.Limits.{most_parts, most_cables}
 use Rattle.lists.specs.Stores.{set_each}
 use Rattle.lists.proofs.Kept.{take_replicate}
 use Rattle.order.specs.Graph.{StGraph, size, upper}
 use Rattle.ranking.specs.Arrays.{graph_in, GraphFits}
-use Rattle.ranking.specs.declared.Graph.{Graph}
+use Rattle.ranking.proofs.GraphArrays.{lines_count}
+use Rattle.ranking.specs.declared.graph.Graph.{Graph}
 use Rattle.placement.specs.declared.Columns as code-columns
 use Rattle.incidence.specs.declared.incident.Incident.{Incident}
 use Rattle.ports.specs.declared.figures.Placement.{Placement}
 use Rattle.layout.specs.Ports.{Port, in_ports, out_ports, port_column, Depicted}
 use Rattle.layout.specs.Columns.{moved, outgoing, incoming, taken, step, columns}
 use Rattle.incidence.specs.Incidents.{at, lines_in, keys_in, Holds}
-use Rattle.placement.specs.Placements.{ColumnsOf, PlacementFits, Opens, moved_by, port_columns}
-use Rattle.ports.specs.Placements.{PlacementIs, Stands}
+use Rattle.placement.specs.Laid.{ColumnsOf}
+use Rattle.placement.specs.Placements.{PlacementFits, Opens, moved_by, port_columns}
+use Rattle.ports.specs.Placements.{PlacementIs, Stands, port_in}
 use Rattle.incidence.proofs.Insertion.{lines_held, keys_held}
 use Rattle.layout.proofs.Ports.{all_out}
-use Rattle.incidence.proofs.Few.{outs_four}
 use Rattle.layout.proofs.Step.{cable, part, width, taken_column, outs, ins, lefts, rights, length_incoming, length_cables, degree}
 use Rattle.layout.proofs.Bounds.{Small, small, taken_column_le, lefts_le, rights_le}
 use Rattle.layout.proofs.Drawings.{complete}
-use Rattle.placement.proofs.Opening.{row_length, line_below, opened_cables}
+use Rattle.placement.proofs.Opening.{lines_below, opened_cables}
 
 -- The columns once a rank stands, by equals
 
@@ -71,8 +72,11 @@ module _ {g : Graph} (v : GraphFits g) {k : ℕ} {c : code-columns.Columns} (s :
           left = e.left ∙ rw (ins_count, outs_count);
           right = e.right ∙ rw (ins_count, outs_count);
           ports = e.ports ∙ rw (ins_count, outs_count);
-          most = e.most;
         }
+
+  -- as many columns are lent as there are cables
+  pub lent : length (take g.cables c.cables) ≡ g.cables
+  lent = ap length s.cables ∙ length_cables (graph_in g) k ∙ sym (lines_count g)
 
   -- What the code's sums need
 
@@ -110,9 +114,9 @@ module _ {g : Graph} (v : GraphFits g) (k : ℕ) {p : Placement} (q : StandsAt (
   pub opens : Opens g.cables o p
   unfolding outs
   opens = record {
-    most = outs_four v.ranked k h;
-    ports = omega (arith, row_length p.ports q.most, ap length q.ports, all_out (ins (graph_in g) k) (outs (graph_in g) k) (degree (graph_in g) v.ranked k), h.count);
-    below = λ j b. rw e (line_below (graph_in g) k o j b (lines_held (upper (graph_in g)) h) h.count);
+    ports = omega (arith, length-map p.ports.now port_in, ap length q.ports, all_out (ins (graph_in g) k) (outs (graph_in g) k) (degree (graph_in g) v.ranked k), h.count);
+    lines = ap length (lines_held (upper (graph_in g)) h) ∙ sym h.count;
+    below = lines_below (graph_in g) k g.cables o e (lines_held (upper (graph_in g)) h) h.count;
   }
 
   pub columns_next :
@@ -132,6 +136,18 @@ module _ {g : Graph} (v : GraphFits g) (k : ℕ) {p : Placement} (q : StandsAt (
         parts = (rw add-one at hq) ∙ standing_same q.column q.left q.right s.parts;
         count = rw (s.count, q.left, q.right);
       })
+
+-- the same, of the columns that were lent, with those behind them
+pub columns_stand :
+    {g : Graph} (v : GraphFits g) (k : ℕ) {p : Placement} → StandsAt (graph_in g) k p → {o : Incident} → Holds (upper (graph_in g)) o (outgoing (graph_in g) k)
+    → {c : code-columns.Columns} {ys qs : List ℕ} (rest : List ℕ) → ColumnsOf g k c → length ys ≡ length (take g.cables c.cables)
+    → ys ≡ set_each (lines_in o) (port_columns p) (map (moved_by p) (take g.cables c.cables))
+    → take (k + 1) qs ≡ map (moved_by p) (take k c.parts) ++ (p.column + p.left) ∷ []
+    → ColumnsOf g (k + 1) (record { cables = ys ++ rest; parts = qs; count = c.count + (p.left + p.right) })
+columns_stand {g} v k {p} q h {c} {ys} {qs} rest s n hy hq =
+    let sums : c.count + p.left + p.right ≡ c.count + (p.left + p.right) = omega arith in
+    subst (λ (w : ℕ). ColumnsOf g (k + 1) (record { cables = ys ++ rest; parts = qs; count = w })) sums
+    (columns_next v k q h (lines_count g) s (take_at ys rest g.cables (n ∙ lent v s) ∙ hy) hq)
 
 pub columns_start : {g : Graph} {ps : List ℕ} → GraphFits g → g.cables ≡ size (graph_in g) → ColumnsOf g 0 (record { cables = replicate most_cables 0; parts = ps; count = 1 })
 unfolding columns

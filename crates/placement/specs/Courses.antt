@@ -17,17 +17,17 @@ pub record ConnectionsOf (G : StGraph) (e : Connections) : Type 0 where
 
 -- the cable's parts are among the n whose columns are given, and its rows are within 16 bits
 pub record Reaches (n : ℕ) (e : Connections) (c : PlacedCable) : Type 0 where
-  pub lower_part_lem : c.lower.0 < n
-  pub upper_part_lem : c.upper.0 < n
+  pub lower_part : c.span.lower.0 < n
+  pub upper_part : c.span.upper.0 < n
   pub most : n ≤ most_parts
   pub below : e.bottom_rows ≤ 1
 
 -- the cable's course, where the parts have the columns ps
 unfoldable pub course_by : List ℕ → Connections → PlacedCable → Course
 course_by ps e c = record {
-  from = spot_at (get_or ps c.lower.0 0) (e.bottom_rows + c.lower.0);
-  low = cond (eqb c.line e.bottom_line) 0 (e.bottom_rows + c.lower.0);
+  from = spot_at (get_or ps c.span.lower.0 0) (e.bottom_rows + c.span.lower.0);
+  low = cond (eqb c.line e.bottom_line) 0 (e.bottom_rows + c.span.lower.0);
   column = c.column;
-  high = cond (eqb c.line e.top_line) (e.bottom_rows + length ps) (e.bottom_rows + c.upper.0);
-  to = spot_at (get_or ps c.upper.0 0) (e.bottom_rows + c.upper.0);
+  high = cond (eqb c.line e.top_line) (e.bottom_rows + length ps) (e.bottom_rows + c.span.upper.0);
+  to = spot_at (get_or ps c.span.upper.0 0) (e.bottom_rows + c.span.upper.0);
 }

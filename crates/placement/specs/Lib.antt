@@ -1,4 +1,5 @@
 -- A layout, as the code holds it. Assumes nothing.
 pub mod Placements
 pub mod Courses
+pub mod Laid
 pub mod Arrays

@@ -2,19 +2,20 @@
 #![tactic(auto)]
 
 use geometry::Spot;
-use ranking::Graph;
+use ranking::graph::Graph;
 use words::limits::{MOST_CABLES, MOST_PARTS};
 
 mod connections;
 mod courses;
+mod laying;
 mod placing;
 
-ghost use Rattle.std.specs.Prelude.{◌≡◌};
-ghost use Rattle.ranking.specs.Arrays.{GraphFits};
-ghost use Rattle.placement.specs.Arrays.{IsLayout};
+ghost use Rattle.placement.specs.Laid.{IsLaidOut};
+
+pub use laying::lay_out;
 
 // A cable's course: its two parts' spots, its lower and its upper lane, and its column.
-#[derive(Clone, Copy)]
+#[derive(Clone, Copy, Debug, PartialEq, Eq)]
 pub struct Course {
     pub from: Spot,
     pub low: u16,
@@ -39,22 +40,5 @@ pub struct Layout {
     pub bottom_rows: u16,
     pub top_rows: u16,
     pub courses: [Course; MOST_CABLES],
-}
-
-// The layout of a graph.
-pub fn lay_out(graph: Graph) -> Layout
-    requires { GraphFits graph }
-    ensures graph_value { result.graph ≡ graph }
-    ensures layout { IsLayout result }
-{
-    let columns = placing::columns_of(graph);
-    let connections = connections::connections_of(graph, columns);
-    let courses = courses::courses_of(graph, columns, connections);
-    Layout {
-        graph,
-        columns,
-        bottom_rows: connections.bottom_rows,
-        top_rows: connections.top_rows,
-        courses,
-    }
+    ghost is_laid_out: { IsLaidOut graph columns bottom_rows top_rows courses },
 }

@@ -2,6 +2,7 @@
 -- Assumes nothing.
 use Prim.Native.Nat.{ℕ, ◌+◌, ◌*◌, ◌/◌, ◌≤◌}
 use native.Mathlib.Omega.{arith}
+use Rattle.std.specs.Prelude.{Ok}
 use mathlib.Core.Path.{◌≡◌, refl}
 use mathlib.Core.List.{List}
 use lib.ListN.{length}
@@ -14,7 +15,6 @@ use Rattle.station.proofs.Passed.{well_formed, wired, cables_most}
 use Rattle.text.specs.Bytes.{words_in}
 use Rattle.hookup.specs.Options.{plain}
 use Rattle.hookup.proofs.Ample.{room_ample}
-use Rattle.printing.specs.declared.Loaded.TheVariants.{Words}
 use Rattle.printing.specs.Printed.{most_bytes, room, loaded, printed}
 use Rattle.printing.proofs.FileLaws.{length_words_in, loaded_count}
 
@@ -32,5 +32,5 @@ pub list_fits : (list : List ℕ) → Clear list_checks list → 4 * length list
 list_fits list C = omega (arith, words_most list C)
 
 -- the longest list that is read, of 16,382 cables, does not pass
-pub longest_refused : (bytes : List ℕ) → loaded bytes ≡ Words (most_bytes / 4) → Clear list_checks (words_in bytes) → ⊥
+pub longest_refused : (bytes : List ℕ) → loaded bytes ≡ Ok (most_bytes / 4) → Clear list_checks (words_in bytes) → ⊥
 longest_refused bytes e C = omega (arith, (loaded_count bytes e).0, length_words_in bytes, words_most (words_in bytes) C)

@@ -1,13 +1,13 @@
 -- The text for an answer: what it is in each case, and how long at most. Assumes nothing.
 use Prim.Native.Nat.{ℕ, ◌*◌, ◌≤◌}
-use mathlib.Core.Path.{◌≡◌, sym, ◌∙◌, ap}
+use mathlib.Core.Path.{◌≡◌, sym, ◌∙◌, ap, ap₂}
 use mathlib.Core.List.{List, ◌++◌}
 use native.Mathlib.Omega.{arith}
 use lib.ListN.{length, take, drop}
 use lib.Seq.{take-append_seam}
 use Rattle.lists.specs.Stores.{Stored}
 use Rattle.lists.proofs.Stores.{stored_as}
-use Rattle.checks.specs.Checks.{first_refusal}
+use Rattle.checks.specs.Checks.{first_refusal, number_of}
 use Rattle.hookup.specs.declared.Options.{Options}
 use Rattle.hookup.specs.Checks.{call_checks}
 use Rattle.hookup.specs.Outcome.{Outcome, sheet_in, outcome}
@@ -26,7 +26,7 @@ outcome_within_lem options list room = passed_within (first_refusal (call_checks
 -- nine bytes a word are room enough where there are six words
 pub length_answer_text : (room : ℕ) (o : Outcome) → 6 ≤ room → Within room o → length (answer_text o) ≤ 9 * room
 length_answer_text room (written words x) h w = omega (arith, length_hex_lines words)
-length_answer_text room (sent_back check place) h w = omega (arith, length_refused_line check place)
+length_answer_text room (sent_back check place) h w = omega (arith, length_refused_line (number_of check) place)
 
 -- The call's answer
 
@@ -46,9 +46,9 @@ sheet_text (sent_back check place) n x row e = let z : ◌≡◌ {A = ℕ} 0 1 =
 refused_text : (o : Outcome) (check place : ℕ) → reply o ≡ refusal check place → refused_line check place ≡ answer_text o
 refused_text (written words k) check place e = let z : ◌≡◌ {A = ℕ} 0 1 = cc in absurd (omega arith)
 refused_text (sent_back c p) check place e =
-    let g : c ≡ check = cc in
+    let g : number_of c ≡ check = cc in
     let h : p ≡ place = cc in
-    cc
+    ap₂ refused_line (sym g) (sym h)
 
 pub sheet_stored : (o : Outcome) (n x : ℕ) (row : List ℕ) {sheet out last : List ℕ} {r : ℕ} → reply o ≡ counts n x → sheet ≡ row_after o row
     → Stored out 0 (hex_lines (take n sheet)) last r → Stored out 0 (answer_text o) last r

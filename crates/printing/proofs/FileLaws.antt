@@ -4,6 +4,7 @@ use mathlib.Core.Path.{◌≡◌, refl, sym, ◌∙◌, ap}
 use mathlib.Core.Bool.{Bool, true, false, cond}
 use mathlib.Core.List.{List, ◌++◌}
 use native.Mathlib.Omega.{arith}
+use Rattle.std.specs.Prelude.{Result, Ok, Err}
 use lib.ListN.{length, take, drop}
 use lib.Seq.{take_at}
 use lib.Dec.{ltb, eqb}
@@ -13,11 +14,10 @@ use Rattle.lists.proofs.Stores.{stored_front}
 use Rattle.lists.proofs.Select.{length_tabulate}
 use Rattle.hookup.specs.Options.{plain}
 use Rattle.hookup.specs.Outcome.{outcome}
-use Rattle.text.specs.Ascii.{ascii}
 use Rattle.text.specs.Bytes.{words_in}
-use Rattle.printing.specs.Printed.{most_bytes, loaded, loaded_row, answer_text, file_text, printed}
-use Rattle.printing.specs.declared.Loaded.{Loaded}
-use Rattle.printing.specs.declared.Loaded.TheVariants.{TooLarge, Broken, Words}
+use Rattle.printing.specs.Printed.{most_bytes, loaded, loaded_row, error_text, answer_text, file_text, printed}
+use Rattle.printing.specs.declared.FileError.{FileError}
+use Rattle.printing.specs.declared.FileError.TheVariants.{TooLarge, Broken}
 use Rattle.printing.proofs.AnswerLaws.{outcome_within_lem, length_answer_text}
 
 pub length_words_in : (bytes : List ℕ) → length (words_in bytes) ≡ length bytes / 4
@@ -25,24 +25,24 @@ unfolding words_in
 length_words_in bytes = length_tabulate (length bytes / 4) _
 
 module _ (bytes : List ℕ) where
-  pub loaded_large : most_bytes < length bytes → loaded bytes ≡ TooLarge
+  pub loaded_large : most_bytes < length bytes → loaded bytes ≡ Err TooLarge
   unfolding loaded
   loaded_large h = rw (lt-ltb most_bytes (length bytes) h) refl
 
-  pub loaded_broken : length bytes ≤ most_bytes → (length bytes % 4 ≡ 0 → ⊥) → loaded bytes ≡ Broken
+  pub loaded_broken : length bytes ≤ most_bytes → (length bytes % 4 ≡ 0 → ⊥) → loaded bytes ≡ Err Broken
   unfolding loaded
   loaded_broken h n = rw (le-ltb most_bytes (length bytes) h, ne_eqb (length bytes % 4) 0 n) refl
 
-  pub loaded_words : length bytes ≤ most_bytes → length bytes % 4 ≡ 0 → loaded bytes ≡ Words (length bytes / 4)
+  pub loaded_words : length bytes ≤ most_bytes → length bytes % 4 ≡ 0 → loaded bytes ≡ Ok (length bytes / 4)
   unfolding loaded
   loaded_words h e = rw (le-ltb most_bytes (length bytes) h, eq-eqb (length bytes % 4) 0 e) refl
 
   -- how many words there are, and at most
-  pub loaded_count : {n : ℕ} → loaded bytes ≡ Words n → (length bytes / 4 ≡ n) × (n ≤ most_bytes / 4)
+  pub loaded_count : {n : ℕ} → loaded bytes ≡ Ok n → (length bytes / 4 ≡ n) × (n ≤ most_bytes / 4)
   unfolding loaded
   loaded_count {n} e = go (ltb most_bytes (length bytes)) (eqb (length bytes % 4) 0) refl e
     where
-      go : (a b : Bool) → ltb most_bytes (length bytes) ≡ a → cond a TooLarge (cond b (Words (length bytes / 4)) Broken) ≡ Words n → (length bytes / 4 ≡ n) × (n ≤ most_bytes / 4)
+      go : (a b : Bool) → ltb most_bytes (length bytes) ≡ a → cond a (Err TooLarge) (cond b (Ok (length bytes / 4)) (Err Broken)) ≡ Ok n → (length bytes / 4 ≡ n) × (n ≤ most_bytes / 4)
       go true b t f = let z : ◌≡◌ {A = ℕ} 0 1 = cc in absurd (omega arith)
       go false false t f = let z : ◌≡◌ {A = ℕ} 0 1 = cc in absurd (omega arith)
       go false true t f =
@@ -54,25 +54,21 @@ module _ (bytes : List ℕ) where
   unfolding printed
   length_printed words h = go (loaded bytes)
     where
-      go : (l : Loaded) → length (file_text l (answer_text (outcome plain (words_in bytes) words))) ≤ 9 * words
-      go TooLarge = omega arith
-      go Broken = omega arith
-      go (Words n) = length_answer_text words (outcome plain (words_in bytes) words) h (outcome_within_lem plain (words_in bytes) words)
+      go : (l : Result ℕ FileError) → length (file_text l (answer_text (outcome plain (words_in bytes) words))) ≤ 9 * words
+      go (Err TooLarge) = omega arith
+      go (Err Broken) = omega arith
+      go (Ok n) = length_answer_text words (outcome plain (words_in bytes) words) h (outcome_within_lem plain (words_in bytes) words)
 
   module _ (words : ℕ) {out last : List ℕ} {r : ℕ} where
-    pub large_stored : loaded bytes ≡ TooLarge → Stored out 0 (ascii "file too large\n") last r → Stored out 0 (printed bytes words) last r
+    pub error_stored : {error : FileError} → loaded bytes ≡ Err error → Stored out 0 (error_text error) last r → Stored out 0 (printed bytes words) last r
     unfolding printed
-    large_stored e S = rw e S
+    error_stored e S = rw e S
 
-    pub broken_stored : loaded bytes ≡ Broken → Stored out 0 (ascii "broken file\n") last r → Stored out 0 (printed bytes words) last r
-    unfolding printed
-    broken_stored e S = rw e S
-
-    pub words_stored : {n : ℕ} (l : Loaded) (row : List ℕ) {now : List ℕ} → l ≡ loaded bytes → l ≡ Words n → now ≡ loaded_row l bytes row
+    pub words_stored : {n : ℕ} (l : Result ℕ FileError) (row : List ℕ) {now : List ℕ} → l ≡ loaded bytes → l ≡ Ok n → now ≡ loaded_row l bytes row
         → Stored out 0 (answer_text (outcome plain (take n now) words)) last r → Stored out 0 (printed bytes words) last r
     unfolding printed
     words_stored {n} l row {now} k e f S =
-        let g : now ≡ words_in bytes ++ drop n row = f ∙ ap (λ (x : Loaded). loaded_row x bytes row) e in
+        let g : now ≡ words_in bytes ++ drop n row = f ∙ ap (λ (x : Result ℕ FileError). loaded_row x bytes row) e in
         let h : take n now ≡ words_in bytes = ap (take n) g ∙ take_at (words_in bytes) (drop n row) n (length_words_in bytes ∙ (loaded_count (sym k ∙ e)).0) in
         rw (sym k ∙ e) (rw h at S)
 

@@ -1,6 +1,7 @@
 -- Document 01's example of the sheet program with request 2026-01's lengths, from the bytes of the triangle's list to the text of its
 -- sheet, and lines of the other kinds. Assumes nothing.
 use Prim.Native.Nat.{ℕ}
+use Rattle.std.specs.Prelude.{Ok}
 use mathlib.Core.Path.{◌≡◌, refl, ◌∙◌}
 use mathlib.Core.List.{List, [], ◌∷◌}
 use Rattle.lists.specs.Select.{up_from, range, tabulate}
@@ -14,7 +15,6 @@ use Rattle.text.specs.Ascii.{ascii}
 use Rattle.text.specs.Bytes.{words_in}
 use Rattle.text.specs.Lines.{hex_digit, hex_half, hex_line, hex_lines, digits, decimal, refused_line}
 use Rattle.printing.specs.Printed.{room, loaded, answer_text, printed}
-use Rattle.printing.specs.declared.Loaded.TheVariants.{Words}
 use Rattle.hookup.proofs.Computing.{hookup_computing}
 
 -- '`10030003 20000002 30000001 30001002 30000002`', 'each word most significant byte first'
@@ -31,7 +31,7 @@ file_words : words_in triangle_file ≡ triangle
 unfolding words_in up_from range tabulate
 file_words = refl
 
-file_whole : loaded triangle_file ≡ Words 5
+file_whole : loaded triangle_file ≡ Ok 5
 unfolding loaded
 file_whole = refl
 

@@ -5,10 +5,12 @@ ghost use Rattle.std.specs.Prelude.{◌≡◌, ◌++◌, ◌+◌, ◌*◌, ◌/�
 ghost use Rattle.lists.specs.Stores.{Stored};
 ghost use Rattle.hookup.specs.Options.{plain};
 ghost use Rattle.hookup.specs.Outcome.{outcome};
-ghost use Rattle.printing.specs.Printed.{most_bytes, room, loaded, loaded_row, answer_text, printed};
+ghost use Rattle.printing.specs.Printed.{most_bytes, room, loaded, loaded_row, message_of, error_text, answer_text, printed};
 
 use drafting::draw;
-use hookup::{Answer, Options};
+use hookup::Options;
+use std::error::Error;
+use std::fmt;
 use text::bytes::read_words;
 use text::lines::{put_hex_lines, put_refused, put_text};
 use words::limits::MOST_WORDS;
@@ -19,27 +21,55 @@ pub const MOST_BYTES: usize = 65536;
 // The row for a sheet, in words: as many as the longest has.
 pub const ROOM: usize = MOST_WORDS;
 
-// What a file is: above 65,536 bytes, ending inside a word, or so many words.
-#[derive(Clone, Copy)]
-pub enum Loaded {
+/// Why a file holds no list.
+#[derive(Clone, Copy, Debug, PartialEq, Eq)]
+pub enum FileError {
+    /// It has more than `MOST_BYTES` bytes.
     TooLarge,
+    /// It ends inside a word.
     Broken,
-    Words(usize),
 }
 
-// The words of a file, stored from the front, unless it is too large or broken.
-pub fn load(bytes: &[u8], words: &mut [u32]) -> Loaded
+impl FileError {
+    pub fn message(self) -> &'static str
+        ensures { result.now ≡ message_of self }
+    {
+        match self {
+            FileError::TooLarge => "file too large",
+            FileError::Broken => "broken file",
+        }
+    }
+}
+
+impl fmt::Display for FileError {
+    fn fmt<W: fmt::Write>(&self, f: &mut fmt::Formatter<W>) -> fmt::Result {
+        f.write_str(self.message())
+    }
+}
+
+impl Error for FileError {}
+
+// The words of a file, stored from the front, unless it is too large or broken; how many there are.
+pub fn load(bytes: &[u8], words: &mut [u32]) -> Result<usize, FileError>
     requires { most_bytes / 4 ≤ length words.old }
     ensures answer { result ≡ loaded bytes.now }
     ensures stored { words.new ≡ loaded_row result bytes.now words.old }
 {
     if bytes.len() > MOST_BYTES {
-        return Loaded::TooLarge;
+        return Err(FileError::TooLarge);
     }
     if bytes.len() % 4 != 0 {
-        return Loaded::Broken;
+        return Err(FileError::Broken);
     }
-    Loaded::Words(read_words(bytes, words))
+    Ok(read_words(bytes, words))
+}
+
+fn print_error(error: FileError, out: &mut [u8]) -> usize
+    requires { 15 ≤ length out.old }
+    ensures { Stored out.old 0 (error_text error) out.new result }
+{
+    let end = put_text(out, 0, error.message().as_bytes());
+    put_text(out, end, b"\n")
 }
 
 // The text for a list: its sheet or its refusal. 2026-05: 'The sheet program gives none', no discount.
@@ -49,11 +79,11 @@ fn print_list(list: &[u32], out: &mut [u8]) -> usize
 {
     let mut sheet = [0u32; ROOM];
     match draw(list, &mut sheet, Options::plain()) {
-        Answer::Sheet {
-            words,
-            crossings: _,
-        } => put_hex_lines(out, 0, &sheet[..words]),
-        Answer::Refused { check, place } => put_refused(out, 0, check as usize, place),
+        Ok(drawn) => put_hex_lines(out, 0, &sheet[..drawn.words]),
+        Err(refusal) => {
+            let number = refusal.fault.number() as usize;
+            put_refused(out, 0, number, refusal.place)
+        }
     }
 }
 
@@ -65,14 +95,13 @@ pub fn print_sheet(bytes: &[u8], out: &mut [u8]) -> usize
 {
     let mut words = [0u32; MOST_BYTES / 4];
     match load(bytes, &mut words) {
-        Loaded::TooLarge => put_text(out, 0, b"file too large\n"),
-        Loaded::Broken => put_text(out, 0, b"broken file\n"),
-        Loaded::Words(n) => print_list(&words[..n], out),
+        Ok(count) => print_list(&words[..count], out),
+        Err(error) => print_error(error, out),
     }
 }
 
 // The text for a file, of which count bytes were read into a buffer with room for one byte more than a file may have: a file that is too
-// large shows.
+// large shows. The count stands beside the buffer, since the promise is about both.
 pub fn print_read(buffer: &[u8], count: usize, out: &mut [u8]) -> usize
     requires buffer_len { (length buffer.now ≡ most_bytes + 1) × (count ≤ length buffer.now) }
     requires room_in_bounds { 9 * room ≤ length out.old }

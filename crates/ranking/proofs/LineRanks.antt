@@ -12,6 +12,8 @@ use Rattle.words.specs.declared.Rank.{Rank}
 use Rattle.station.specs.Station.{station_of, no_cable}
 use Rattle.checks.specs.Checks.{Clear}
 use Rattle.ranking.specs.declared.Ranking.{Ranking}
+use Rattle.ranking.specs.declared.graph.Span.{Span}
+use Rattle.ranking.specs.Spans.{lower_ranks, upper_ranks}
 use Rattle.order.specs.Checks.{all_checks}
 use Rattle.order.specs.Order.{order, rank_in}
 use Rattle.order.specs.Graph.{StGraph, lower, upper}
@@ -62,17 +64,28 @@ pub length_blank : length blank ≡ most_cables
 unfolding blank
 length_blank = length-replicate {A = ℕ} most_cables 0
 
-pub filled_blank : (f : ℕ → ℕ) (r : Rank) → r.0 ≡ 0 → Filled f 0 0 blank (rank_numbers (replicate most_cables r))
-unfolding blank rank_numbers
-filled_blank f r e =
-    subst (Filled f 0 0 (replicate most_cables 0)) (sym (map_replicate (λ (k : Rank). k.0) most_cables r ∙ ap (replicate most_cables) e))
-    (filled_none f 0 (replicate most_cables 0))
+module _ (f : ℕ → ℕ) where
+  pub lower_blank : (s : Span) → s.lower.0 ≡ 0 → Filled f 0 0 blank (lower_ranks (replicate most_cables s))
+  unfolding blank lower_ranks
+  lower_blank s e =
+      subst (Filled f 0 0 (replicate most_cables 0)) (sym (map_replicate (λ (k : Span). k.lower.0) most_cables s ∙ ap (replicate most_cables) e))
+      (filled_none f 0 (replicate most_cables 0))
 
--- a rank that is stored is its number among the numbers
-pub filled_rank : (f : ℕ → ℕ) {i : ℕ} (l : List Rank) (k : Rank) → i < length blank → k.0 ≡ f i → Filled f 0 i blank (rank_numbers l)
-    → Filled f 0 (i + 1) blank (rank_numbers (set l i k))
-unfolding rank_numbers
-filled_rank f {i} l k h e F = rw (map_set (λ (r : Rank). r.0) l i k) (filled_more f 0 k.0 h e F)
+  pub upper_blank : (s : Span) → s.upper.0 ≡ 0 → Filled f 0 0 blank (upper_ranks (replicate most_cables s))
+  unfolding blank upper_ranks
+  upper_blank s e =
+      subst (Filled f 0 0 (replicate most_cables 0)) (sym (map_replicate (λ (k : Span). k.upper.0) most_cables s ∙ ap (replicate most_cables) e))
+      (filled_none f 0 (replicate most_cables 0))
+
+  -- a span that is stored is its ranks' numbers among the numbers
+  module _ {i : ℕ} (l : List Span) (s : Span) (h : i < length blank) where
+    pub lower_filled : s.lower.0 ≡ f i → Filled f 0 i blank (lower_ranks l) → Filled f 0 (i + 1) blank (lower_ranks (set l i s))
+    unfolding lower_ranks
+    lower_filled e F = rw (map_set (λ (k : Span). k.lower.0) l i s) (filled_more f 0 s.lower.0 h e F)
+
+    pub upper_filled : s.upper.0 ≡ f i → Filled f 0 i blank (upper_ranks l) → Filled f 0 (i + 1) blank (upper_ranks (set l i s))
+    unfolding upper_ranks
+    upper_filled e F = rw (map_set (λ (k : Span). k.upper.0) l i s) (filled_more f 0 s.upper.0 h e F)
 
 -- as far as a list goes, an array that is filled from it is the list
 filled_list : (xs : List ℕ) {i m : ℕ} {l : List ℕ} → length xs ≡ m → m ≤ i → m ≤ most_cables → Filled (λ j. get_or xs j 0) 0 i blank l → take m l ≡ xs

@@ -1,20 +1,15 @@
--- The cables in ranks that the code's arrays hold. Assumes nothing.
-use Rattle.std.specs.Prelude.{◌≤◌, take}
+-- The cables in ranks that the code's array holds. Assumes nothing.
+use Rattle.std.specs.Prelude.{◌≤◌}
 use Rattle.words.specs.Limits.{most_parts, most_cables}
-use Rattle.ranking.specs.declared.Graph.{Graph}
+use Rattle.ranking.specs.declared.graph.Graph.{Graph}
 use Rattle.order.specs.Graph.{StGraph}
 use Rattle.order.specs.RankedGraphs.{Ranked}
-use Rattle.ordering.specs.Numbers.{rank_numbers}
+use Rattle.ranking.specs.Spans.{graph_by}
 
--- of each array, as many lines as there are cables
 abbrev pub graph_in : Graph → StGraph
-graph_in r = record {
-  parts = r.parts;
-  lowers = take r.cables (rank_numbers r.lower);
-  uppers = take r.cables (rank_numbers r.upper);
-}
+graph_in r = graph_by r.parts r.cables r.spans
 
--- a graph that the layout may start from: ranked, and within the arrays
+-- every graph is one that the layout may start from: ranked, and within the array
 pub record GraphFits (g : Graph) : Type 0 where
   pub ranked : Ranked (graph_in g)
   pub cables : g.cables ≤ most_cables

@@ -1,12 +1,11 @@
 -- What a ranking of parts says: the parts by rank and the ranks by part. Assumes nothing.
-use Rattle.std.specs.Prelude.{ℕ, ◌<◌, ◌≡◌, List, get_or, take}
-use Rattle.checks.specs.declared.Verdict.TheVariants.{Passed}
-use Rattle.checks.specs.Checks.{first_refusal}
+use Rattle.std.specs.Prelude.{ℕ, ◌<◌, ◌≡◌, List, get_or, take, Result, Ok, Err}
+use Rattle.checks.specs.declared.Refusal.{Refusal}
+use Rattle.checks.specs.Checks.{first_refusal, Clear}
 use Rattle.station.specs.Station.{Station, station_of}
 use Rattle.order.specs.Checks.{all_checks}
 use Rattle.ordering.specs.Numbers.{part_numbers, rank_numbers}
 use Rattle.ranking.specs.declared.Ranking.{Ranking}
-use Rattle.ranking.specs.declared.CheckedRanking.{CheckedRanking}
 use Rattle.order.specs.Order.{order, rank_in}
 
 -- 'rank by part, part by rank': of the order of a station
@@ -26,7 +25,7 @@ pub record Inverse (n : ℕ) (r : Ranking) : Type 0 where
   pub named : (k : ℕ) → k < n → get_or (names_in n r) k 0 < n
   pub place : (k : ℕ) → k < n → rank_in (names_in n r) (get_or (names_in n r) k 0) ≡ k
 
--- what the one call for checks 1 to 10 answers: the first refusal, and the order where there is none
-pub record Checked (list : List ℕ) (c : CheckedRanking) : Type 0 where
-  pub verdict : c.verdict ≡ first_refusal all_checks list
-  pub ranking : c.verdict ≡ Passed → RankingOf (station_of list) c.ranking
+-- what the one call for checks 1 to 10 answers: the order where none of them applies, and else the first refusal
+abbrev pub Checked : List ℕ → Result Ranking Refusal → Type 0
+Checked list (Ok ranking) = Clear all_checks list × RankingOf (station_of list) ranking
+Checked list (Err refusal) = first_refusal all_checks list ≡ Err refusal

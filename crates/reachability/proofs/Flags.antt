@@ -1,4 +1,5 @@
 -- Laws of sets kept as flags: membership, removal, size. Assumes nothing.
+use Rattle.std.specs.Prelude.{Option}
 use Prim.Native.Nat.{ℕ, ◌<◌, ◌≤◌}
 use native.Mathlib.Omega.{arith}
 use native.Mathlib.Decide.{ℕ_discrete, dec_lt}
@@ -10,7 +11,6 @@ use lib.Seq.{get_or-set_same, get_or-set_other, set_out}
 use lib.Dec.{eqb}
 use borrow.Author.Tests.{eq-eqb, ne_eqb}
 use Rattle.words.specs.Limits.{most_parts}
-use Rattle.lists.specs.declared.Found.{Found}
 use Rattle.lists.specs.Search.{seek}
 use Rattle.lists.specs.Select.{range, member, without}
 use Rattle.lists.proofs.Bools.{same_test}
@@ -68,7 +68,7 @@ module _ (n : ℕ) (flags : List Bool) where
   lowest_flagged = seek_filter (λ p. get_or flags p false) 0 n
 
 -- what a search of the flags found is what the set starts with
-pub front_flagged : {n n' : ℕ} (flags : List Bool) {r x : Found} → n ≡ n' → r ≡ seek (λ p. get_or flags p false) 0 n → r ≡ x → front (flagged n' flags) ≡ x
+pub front_flagged : {n n' : ℕ} (flags : List Bool) {r x : Option ℕ} → n ≡ n' → r ≡ seek (λ p. get_or flags p false) 0 n → r ≡ x → front (flagged n' flags) ≡ x
 front_flagged {n} {n'} flags {r} {x} e f g = sym (lowest_flagged n' flags) ∙ ap (λ (k : ℕ). seek (λ p. get_or flags p false) 0 k) (sym e) ∙ sym f ∙ g
 
 -- every part

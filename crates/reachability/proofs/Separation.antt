@@ -1,13 +1,12 @@
 -- The part that a search for one that is cut off from t finds: laws of what a walk leaves of a set. Assumes nothing.
-use Prim.Native.Nat.{ℕ, ◌+◌, ◌*◌, ◌-◌, ◌^◌, ◌<◌, ◌≤◌}
+use Rattle.std.specs.Prelude.{Option, Some, None}
+use Prim.Native.Nat.{ℕ, ◌^◌, ◌<◌}
 use native.Mathlib.Omega.{arith}
 use mathlib.Core.Path.{◌≡◌, refl, sym, ap, ◌∙◌, subst}
 use mathlib.Core.Logic.{◌⊎◌, inl, inr}
 use mathlib.Core.Bool.{Bool, beq, true, false, not, false≢true}
 use mathlib.Core.List.{List, [], ◌∷◌, Memᴰ}
-use lib.ListN.{get_or, set}
-use Rattle.lists.specs.declared.Found.{Found}
-use Rattle.lists.specs.declared.Found.TheVariants.{At, Nothing}
+use lib.ListN.{length, get_or, set}
 use Rattle.lists.specs.Search.{seek}
 use Rattle.lists.specs.Select.{without}
 use Rattle.lists.proofs.Select.{get_d_mem}
@@ -16,19 +15,20 @@ use Rattle.lists.proofs.Sets.{without_e}
 use Rattle.station.specs.Station.{station_of}
 use Rattle.station.specs.Code.{Wired}
 use Rattle.order.specs.Reach.{Path, arrived, unreached, null, connected}
-use Rattle.reachability.specs.Tables.{neighbours_in, Adjacent, set_of, Across, CutOff}
+use Rattle.words.specs.declared.Part.{Part}
+use Rattle.reachability.specs.declared.adjacency.Neighbours.{Neighbours}
+use Rattle.reachability.specs.Tables.{numbers, number_at, neighbours_in, Adjacent, set_of, Across, CutOff}
 use Rattle.order.proofs.Paths.{path_end, path_on, path_back}
 use Rattle.order.proofs.Reach.{Among, reached, unreached_iff}
-use Rattle.words.specs.Limits.{most_degree, most_parts}
-use Rattle.words.specs.Rooms.{neighbour_places}
-use Rattle.reachability.proofs.AdjacencyTable.{neighbours_length, neighbours_at, joined_inside}
+use Rattle.words.specs.Limits.{most_parts}
+use Rattle.reachability.proofs.AdjacencyTable.{numbers_length, numbers_at, joined_inside}
 use Rattle.reachability.proofs.Flags.{flagged_e, flagged_i, without_flagged, front_flagged}
 use Rattle.reachability.proofs.Connected.{front_mem, connected_empty, connected_from, null_none, null_mem}
 
-at_nothing : {x : ℕ} → Nothing ≡ At x → ⊥
+at_nothing : {x : ℕ} → None ≡ Some x → ⊥
 at_nothing e = let z : ◌≡◌ {A = ℕ} 0 1 = cc in omega arith
 
-at_one : {x y : ℕ} → At x ≡ At y → x ≡ y
+at_one : {x y : ℕ} → Some x ≡ Some y → x ≡ y
 at_one e = cc
 
 unequal : (a b : Bool) → not (beq a b) ≡ true → a ≡ not b
@@ -39,59 +39,34 @@ unequal false false e = absurd (false≢true e)
 
 -- a part that was found is one
 
-module _ (list : List ℕ) {n p : ℕ} {r : Found} (test : ℕ → Bool) (W : Wired (station_of list)) (c : n ≡ (station_of list).parts) (s : r ≡ seek test 0 n) (e : r ≡ At p) where
+module _ (list : List ℕ) {n p : ℕ} {r : Option ℕ} (test : ℕ → Bool) (W : Wired (station_of list)) (c : n ≡ (station_of list).parts) (s : r ≡ seek test 0 n) (e : r ≡ Some p) where
   pub found_inside : p < (station_of list).parts
   found_inside = omega (arith, c, (seek_found test 0 n (sym s ∙ e)).below)
 
   pub found_fits : p < 2 ^ 16
   found_fits = omega (arith, found_inside, W.most)
 
--- The neighbours of v in the table, looked at from the last down: those from place j on are
+-- a neighbour that a look at all of them comes to is a part
+pub looked_inside : {list : List ℕ} {table : List Neighbours} (v : ℕ) (parts : List Part) (j : ℕ) → Adjacent list table → numbers parts ≡ neighbours_in table v → j < length parts
+    → number_at parts j < (station_of list).parts
+looked_inside v parts j A e h =
+    joined_inside A.wired v (subst (λ (l : List ℕ). Memᴰ (number_at parts j) l) (e ∙ A.by_line v)
+    (subst (λ (x : ℕ). Memᴰ x (numbers parts)) (numbers_at parts j) (get_d_mem (numbers parts) j 0 (omega (arith, numbers_length parts)))))
 
-pub record Looking (list table : List ℕ) (v j : ℕ) : Type 0 where
-  pub adjacent : Adjacent list table
-  pub part : v < most_parts
-  pub place : j ≤ get_or table (neighbour_places + v) 0
-  pub few : j ≤ most_degree
+pub looked_below : {list : List ℕ} {table : List Neighbours} (v : ℕ) (parts : List Part) (j : ℕ) → Adjacent list table → numbers parts ≡ neighbours_in table v → j < length parts
+    → number_at parts j < most_parts
+looked_below v parts j A e h = omega (arith, looked_inside v parts j A e h, A.wired.most)
 
-pub looking_start : {list table : List ℕ} {v : ℕ} → Adjacent list table → v < most_parts → Looking list table v (get_or table (neighbour_places + v) 0)
-looking_start {v = v} A h = record { adjacent = A; part = h; place = omega arith; few = A.formed.few v }
-
-module _ {list table : List ℕ} {v j : ℕ} (L : Looking list table v j) (h : 0 < j) where
-  pub looking_next : Looking list table v (j - 1)
-  looking_next = record { adjacent = L.adjacent; part = L.part; place = omega (arith, L.place); few = omega (arith, L.few) }
-
-  -- one that is looked at is a part
-  pub looked_inside : get_or table (most_degree * v + (j - 1)) 0 < (station_of list).parts
-  looked_inside =
-      let F = L.adjacent.formed in
-      let at = neighbours_in table v in
-      subst (λ (x : ℕ). x < (station_of list).parts) (neighbours_at F L.part (j - 1) (omega (arith, L.place)))
-      (joined_inside L.adjacent.wired v
-      (subst (Memᴰ (get_or at (j - 1) 0)) (L.adjacent.by_line v) (get_d_mem at (j - 1) 0 (omega (arith, neighbours_length F L.part, L.place)))))
-
-  pub looked_below : get_or table (most_degree * v + (j - 1)) 0 < most_parts
-  looked_below = omega (arith, looked_inside, L.adjacent.wired.most)
-
-  pub looked_fits : get_or table (most_degree * v + (j - 1)) 0 < 2 ^ 64
-  looked_fits = omega (arith, looked_below)
-
-  -- and one that passes the tests is across
-  pub across_here :
-      {flags left : List Bool} {a : ℕ} → a ≡ (station_of list).analyser → get_or flags (get_or table (most_degree * v + (j - 1)) 0) false ≡ true
-      → not (beq (get_or left (get_or table (most_degree * v + (j - 1)) 0) false) (get_or left a false)) ≡ true
-      → Across list flags left (get_or table (most_degree * v + (j - 1)) 0)
-  across_here {left = left} {a} e m t = record {
-    inside = looked_inside;
-    member = m;
-    across = unequal _ (get_or left a false) t ∙ ap (λ (x : ℕ). not (get_or left x false)) e;
-  }
+-- and one that passes the tests is across
+pub across_here : {list : List ℕ} {flags left : List Bool} {a x : ℕ} → a ≡ (station_of list).analyser → x < (station_of list).parts → get_or flags x false ≡ true
+    → not (beq (get_or left x false) (get_or left a false)) ≡ true → Across list flags left x
+across_here {left = left} {a} e i m t = record { inside = i; member = m; across = unequal _ (get_or left a false) t ∙ ap (λ (y : ℕ). not (get_or left y false)) e }
 
 -- The answers of a search for a part that is cut off: what it found is what the set, and what the walk from there leaves, start with; or a
 -- part that the walk divides from t
 
-module _ (list : List ℕ) (flags : List Bool) {n : ℕ} {r : Found} (c : n ≡ (station_of list).parts) (s : r ≡ seek (λ p. get_or flags p false) 0 n) where
-  pub cut_none : r ≡ Nothing → CutOff list (set_of list flags) Nothing
+module _ (list : List ℕ) (flags : List Bool) {n : ℕ} {r : Option ℕ} (c : n ≡ (station_of list).parts) (s : r ≡ seek (λ p. get_or flags p false) 0 n) where
+  pub cut_none : r ≡ None → CutOff list (set_of list flags) None
   cut_none e =
       record {
         test = ap not (sym (connected_empty (station_of list).cables (set_of list flags) (front_flagged flags c s e)));
@@ -99,7 +74,7 @@ module _ (list : List ℕ) (flags : List Bool) {n : ℕ} {r : Found} (c : n ≡ 
         apart = λ q a. absurd (at_nothing a);
       }
 
-  module _ {p : ℕ} (e : r ≡ At p) (left : List Bool) (u : set_of list left ≡ unreached (station_of list).cables (set_of list flags) (p ∷ [])) where
+  module _ {p : ℕ} (e : r ≡ Some p) (left : List Bool) (u : set_of list left ≡ unreached (station_of list).cables (set_of list flags) (p ∷ [])) where
     from : connected (station_of list).cables (set_of list flags) ≡ null (set_of list left)
     from = connected_from (station_of list).cables (set_of list flags) (front_flagged flags c s e) ∙ ap null (sym u)
 
@@ -137,16 +112,16 @@ module _ (list : List ℕ) (flags : List Bool) {n : ℕ} {r : Found} (c : n ≡ 
           let h = flagged_e (station_of list).parts flags start_mem in
           record { inside = h.0; member = h.1; across = start_reached ∙ ap not (sym (at_t true l)) }
 
-      module _ (l : get_or left a false ≡ false) {found : Found} (f : found ≡ seek (λ q. get_or left q false) 0 n) where
+      module _ (l : get_or left a false ≡ false) {found : Option ℕ} (f : found ≡ seek (λ q. get_or left q false) 0 n) where
         -- t is reached: a part that is left is across
-        pub across_left : {q : ℕ} → found ≡ At q → Across list flags left q
+        pub across_left : {q : ℕ} → found ≡ Some q → Across list flags left q
         across_left {q} g =
             let k : Memᴰ q (set_of list left) = front_mem (set_of list left) (front_flagged left c f g) in
             let h = flagged_e (station_of list).parts flags (apart_of k).0 in
             record { inside = h.0; member = h.1; across = (flagged_e (station_of list).parts left k).1 ∙ ap not (sym (at_t false l)) }
 
         -- and where none is left the parts are joined to each other
-        pub cut_not : found ≡ Nothing → CutOff list (set_of list flags) Nothing
+        pub cut_not : found ≡ None → CutOff list (set_of list flags) None
         cut_not g =
             record {
               test = ap not (sym (from ∙ null_none (set_of list left) (front_flagged left c f g)));
@@ -155,21 +130,21 @@ module _ (list : List ℕ) (flags : List Bool) {n : ℕ} {r : Found} (c : n ≡ 
             }
 
     -- a part across the walk from t is cut off
-    pub cut_across : {q : ℕ} → Wired (station_of list) → Across list flags left q → CutOff list (set_of list flags) (At q)
+    pub cut_across : {q : ℕ} → Wired (station_of list) → Across list flags left q → CutOff list (set_of list flags) (Some q)
     cut_across {q} W A = go (get_or left (station_of list).analyser false) refl
       where
         mq : Memᴰ q (set_of list flags)
         mq = flagged_i (station_of list).parts flags q A.inside A.member
 
         cut : {x : ℕ} → Memᴰ x (set_of list left) → (Path (station_of list).cables (Among (set_of list flags)) (station_of list).analyser q → ⊥)
-            → CutOff list (set_of list flags) (At q)
+            → CutOff list (set_of list flags) (Some q)
         cut m none = record {
           test = ap not (sym (from ∙ null_mem (set_of list left) m));
           inside = λ y b. subst (λ (z : ℕ). Memᴰ z (set_of list flags)) (at_one b) mq;
           apart = λ y b g. none (subst (Path (station_of list).cables (Among (set_of list flags)) (station_of list).analyser) (sym (at_one b)) g);
         }
 
-        go : (b : Bool) → get_or left (station_of list).analyser false ≡ b → CutOff list (set_of list flags) (At q)
+        go : (b : Bool) → get_or left (station_of list).analyser false ≡ b → CutOff list (set_of list flags) (Some q)
         go true l =
             let mt : Memᴰ (station_of list).analyser (set_of list left) = flagged_i (station_of list).parts left (station_of list).analyser W.analyser l in
             cut mt (λ g. (apart_of mt).1 (path_on (station_of list).cables (path_from mq (A.across ∙ ap not l)) g))
@@ -179,8 +154,8 @@ module _ (list : List ℕ) (flags : List Bool) {n : ℕ} {r : Found} (c : n ≡ 
             (λ g. (apart_of k).1 (path_on (station_of list).cables (path_from (path_end (station_of list).cables g) l) (path_back (station_of list).cables g)))
 
 -- the set without v, as flags
-pub cut_without : {list : List ℕ} {found : Found} (flags : List Bool) (v : ℕ) → CutOff list (set_of list (set flags v false)) found → CutOff list (without v (set_of list flags)) found
+pub cut_without : {list : List ℕ} {found : Option ℕ} (flags : List Bool) (v : ℕ) → CutOff list (set_of list (set flags v false)) found → CutOff list (without v (set_of list flags)) found
 cut_without {list} {found} flags v C = subst (λ (l : List ℕ). CutOff list l found) (sym (without_flagged (station_of list).parts flags v)) C
 
-pub cut_fits : {list : List ℕ} {found : Found} {q : ℕ} (flags : List Bool) (v : ℕ) → Wired (station_of list) → CutOff list (without v (set_of list flags)) found → found ≡ At q → q < 2 ^ 16
+pub cut_fits : {list : List ℕ} {found : Option ℕ} {q : ℕ} (flags : List Bool) (v : ℕ) → Wired (station_of list) → CutOff list (without v (set_of list flags)) found → found ≡ Some q → q < 2 ^ 16
 cut_fits {list} {q = q} flags v W C e = omega (arith, (flagged_e _ flags (without_e v (set_of list flags) (C.inside q e)).0).0, W.most)

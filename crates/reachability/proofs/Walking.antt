@@ -6,22 +6,23 @@ use mathlib.Core.Logic.{◌⊎◌, inl, inr}
 use mathlib.Core.Bool.{Bool, true, false, cond}
 use mathlib.Core.List.Memᴰ
 use mathlib.Core.List.{List, [], ◌∷◌, ◌++◌, Memᴰ}
-use lib.ListN.{length, get_or, set, replicate, length-set}
+use lib.ListN.{length, get_or, set, replicate}
 use Rattle.words.specs.Limits.{most_parts}
 use Rattle.words.specs.Rooms.{neighbour_places, stack_places}
 use Rattle.lists.specs.Select.{member, without}
 use Rattle.station.specs.Station.{station_of}
 use Rattle.station.specs.Code.{Wired}
 use Rattle.order.specs.Reach.{neighbours, ends_at, unreached, separated}
-use Rattle.reachability.specs.Tables.{Adjacent, set_of, from_top, Starting, Steppable, Stepped}
+use Rattle.words.specs.declared.Part.{Part}
+use Rattle.reachability.specs.declared.adjacency.Neighbours.{Neighbours}
+use Rattle.reachability.specs.Tables.{number_at, Adjacent, set_of, from_top, Starting, Steppable, Stepped}
 use Rattle.reachability.proofs.Neighbours.{neighbours_few}
 use Rattle.reachability.proofs.AdjacencyTable.{joined_inside}
 use Rattle.reachability.proofs.Flags.{member_flagged, distinct_flagged, length_flagged, without_flagged, flagged_all}
 use Rattle.reachability.proofs.Walks.{ends_few, unreached_none, unreached_next, steps_next, length_from_top, from_top_one, from_top_two, from_top_pop}
 
 -- The walk from the starts among the flags of a set, with left and a stack of height top still to go.
-pub record Walking (list : List ℕ) (among : List Bool) (starts : List ℕ) (left : List Bool) (stack : List ℕ) (top : ℕ) : Type 0 where
-  pub places : length stack ≡ stack_places
+pub record Walking (list : List ℕ) (among : List Bool) (starts : List ℕ) (left : List Bool) (stack : List Part) (top : ℕ) : Type 0 where
   pub room : ends_at (station_of list).cables (set_of list left) + top ≤ neighbour_places + 2
   pub inside : (q : ℕ) → Memᴰ q (from_top stack top) → q < (station_of list).parts
   pub same :
@@ -32,11 +33,10 @@ pub above : {k top : ℕ} → k < top → 0 < top
 above h = omega arith
 
 module _ {list : List ℕ} where
-  pub walking_start : (flags : List Bool) {stack : List ℕ} {top : ℕ} → Wired (station_of list) → Starting list stack top
+  pub walking_start : (flags : List Bool) {stack : List Part} {top : ℕ} → Wired (station_of list) → Starting list stack top
       → Walking list flags (from_top stack top) flags stack top
   walking_start flags W S =
       record {
-        places = S.places;
         room =
             omega (
               arith,
@@ -49,22 +49,17 @@ module _ {list : List ℕ} where
         same = refl;
       }
 
-  module _ {among left : List Bool} {starts stack : List ℕ} {top : ℕ} (W : Walking list among starts left stack top) where
-    walking_top : 0 < top → get_or stack (top - 1) 0 < (station_of list).parts
-    walking_top h = W.inside (get_or stack (top - 1) 0) (rw (from_top_pop stack top h) (Memᴰ.head refl))
+  module _ {among left : List Bool} {starts : List ℕ} {stack : List Part} {top : ℕ} (W : Walking list among starts left stack top) where
+    walking_top : 0 < top → number_at stack (top - 1) < (station_of list).parts
+    walking_top h = W.inside (number_at stack (top - 1)) (rw (from_top_pop stack top h) (Memᴰ.head refl))
 
-    pub walking_fits : {table : List ℕ} → Adjacent list table → 0 < top → Steppable table stack top
+    pub walking_fits : {table : List Neighbours} → Adjacent list table → 0 < top → Steppable stack top
     walking_fits A h =
         record {
-          formed = A.formed;
-          places = W.places;
           some = h;
           room = omega (arith, W.room);
           part = omega (arith, walking_top h, A.wired.most);
         }
-
-    pub walking_places : length stack ≡ stack_places
-    walking_places = W.places
 
     pub walking_end : top ≤ 0 → set_of list left ≡ unreached (station_of list).cables (set_of list among) starts
     unfolding from_top
@@ -72,10 +67,10 @@ module _ {list : List ℕ} where
         let e : top ≡ 0 = omega arith in
         sym (unreached_none (station_of list).cables (set_of list left)) ∙ rw e at W.same
 
-    module _ {table : List ℕ} (A : Adjacent list table) (h : 0 < top) {left' : List Bool} {stack' : List ℕ} {top' : ℕ} (S : Stepped table left stack top left' stack' top') where
+    module _ {table : List Neighbours} (A : Adjacent list table) (h : 0 < top) {left' : List Bool} {stack' : List Part} {top' : ℕ} (S : Stepped table left stack top left' stack' top') where
       -- the part on top, what lies under it, and whether it is left
       q : ℕ
-      q = get_or stack (top - 1) 0
+      q = number_at stack (top - 1)
 
       todo : List ℕ
       todo = from_top stack (top - 1)
@@ -133,7 +128,6 @@ module _ {list : List ℕ} where
       pub walking_next : Walking list among starts left' stack' top'
       walking_next =
           record {
-            places = S.places ∙ W.places;
             room = omega (arith, walking_less, W.room);
             inside = inside_next;
             same = same_next;
@@ -141,47 +135,37 @@ module _ {list : List ℕ} where
 
 -- Walks from one part: its stack, and what it leaves
 
-pub starting_one : {list : List ℕ} {p : ℕ} (stack : List ℕ) → length stack ≡ stack_places → p < (station_of list).parts → Starting list (set stack 0 p) 1
+pub starting_one : {list : List ℕ} {p : Part} (stack : List Part) → length stack ≡ stack_places → p.0 < (station_of list).parts → Starting list (set stack 0 p) 1
 starting_one {p = p} stack e h =
     record {
-      places = length-set stack 0 p ∙ e;
       few = omega arith;
       inside = λ q m. omega (arith, Memᴰ.eq_of_singleton (subst (Memᴰ q) (from_top_one stack p (omega arith)) m));
     }
 
 pub left_one :
-    (list : List ℕ) (left among : List Bool) (stack : List ℕ) (p : ℕ) → length stack ≡ stack_places
+    (list : List ℕ) (left among : List Bool) (stack : List Part) (p : Part) → length stack ≡ stack_places
     → set_of list left ≡ unreached (station_of list).cables (set_of list among) (from_top (set stack 0 p) 1)
-    → set_of list left ≡ unreached (station_of list).cables (set_of list among) (p ∷ [])
+    → set_of list left ≡ unreached (station_of list).cables (set_of list among) (p.0 ∷ [])
 left_one list left among stack p e u = u ∙ ap (unreached (station_of list).cables (set_of list among)) (from_top_one stack p (omega arith))
 
 -- Walks from two
 
 pub starting_two :
-    {list : List ℕ} {p r : ℕ} (stack : List ℕ) → length stack ≡ stack_places → p < (station_of list).parts → r < (station_of list).parts
+    {list : List ℕ} {p r : Part} (stack : List Part) → length stack ≡ stack_places → p.0 < (station_of list).parts → r.0 < (station_of list).parts
     → Starting list (set (set stack 0 p) 1 r) 2
 starting_two {list} {p} {r} stack e h g =
     record {
-      places = length-set (set stack 0 p) 1 r ∙ length-set stack 0 p ∙ e;
       few = omega arith;
       inside = λ q m. either q (Memᴰ.cases_cons (subst (Memᴰ q) (from_top_two stack p r (omega arith)) m));
     }
   where
-    either : (q : ℕ) → (q ≡ r) ⊎ Memᴰ q (p ∷ []) → q < (station_of list).parts
+    either : (q : ℕ) → (q ≡ r.0) ⊎ Memᴰ q (p.0 ∷ []) → q < (station_of list).parts
     either q (inl f) = omega arith
     either q (inr m) = omega (arith, Memᴰ.eq_of_singleton m)
 
--- both ends are parts
-module _ (list : List ℕ) {x : ℕ} (W : Wired (station_of list)) where
-  pub source_inside : x ≡ (station_of list).source → x < (station_of list).parts
-  source_inside e = omega (arith, W.source)
-
-  pub analyser_inside : x ≡ (station_of list).analyser → x < (station_of list).parts
-  analyser_inside e = omega (arith, W.analyser)
-
 pub left_ends :
-    (list : List ℕ) (left : List Bool) {s t : ℕ} (v : ℕ) (stack : List ℕ) → Wired (station_of list) → length stack ≡ stack_places
-    → s ≡ (station_of list).source → t ≡ (station_of list).analyser
+    (list : List ℕ) (left : List Bool) {s t : Part} (v : ℕ) (stack : List Part) → Wired (station_of list) → length stack ≡ stack_places
+    → s.0 ≡ (station_of list).source → t.0 ≡ (station_of list).analyser
     → set_of list left ≡ unreached (station_of list).cables (set_of list (set (replicate most_parts true) v false)) (from_top (set (set stack 0 t) 1 s) 2)
     → set_of list left ≡ separated (station_of list) v
 unfolding separated

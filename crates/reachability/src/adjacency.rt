@@ -1,63 +1,78 @@
-// The adjacency table of a list's cables.
+// The neighbours of each part, by the cables of a list.
 ghost use Rattle.std.specs.Prelude.{◌≡◌, ◌<◌};
 ghost use Rattle.words.specs.Limits.{most_parts};
 ghost use Rattle.station.specs.Station.{station_of};
 ghost use Rattle.station.specs.Code.{Wired};
-ghost use Rattle.reachability.specs.Tables.{TableFits, has_neighbour, Adjacent, Appendable, Appended};
+ghost use Rattle.reachability.specs.Tables.{numbers, neighbours_in, has_neighbour, TableFits, Adjacent, Appendable, Appended};
 
 use listing::fields;
 use words::Part;
-use words::limits::{ADJACENCY_PLACES, MOST_DEGREE, MOST_PARTS, NEIGHBOUR_PLACES};
+use words::limits::{MOST_DEGREE, MOST_PARTS};
 
-// Part p's neighbours by line, at most four, from place MOST_DEGREE p on, and how many they are at place DEGREES + p.
-pub type Table = [u16; ADJACENCY_PLACES];
+// A part's neighbours: of its places, as many as it counts.
+#[derive(Clone, Copy)]
+pub struct Neighbours {
+    parts: [Part; MOST_DEGREE],
+    count: u8,
+}
 
-pub const DEGREES: usize = NEIGHBOUR_PLACES;
+// The neighbours of every part, by line.
+#[derive(Clone, Copy)]
+pub struct Adjacency {
+    table: [Neighbours; MOST_PARTS],
+    pub ghost formed: { TableFits table },
+}
 
 // q put behind the neighbours of p.
-fn join(table: &mut Table, p: Part, q: Part)
+fn join(table: &mut [Neighbours; MOST_PARTS], p: Part, q: Part)
     requires { Appendable table.old p.0 q.0 }
     ensures { Appended table.old table.new p.0 q.0 }
 {
-    let i = p.0 as usize;
-    let d = table[DEGREES + i];
-    table[MOST_DEGREE * i + d as usize] = q.0;
-    table[DEGREES + i] = d + 1;
+    let neighbours = &mut table[p.0 as usize];
+    neighbours.parts[neighbours.count as usize] = q;
+    neighbours.count += 1;
 }
 
-// The table of a list's cables.
-pub fn table_of(list: &[u32]) -> Table
-    requires { Wired (station_of list.now) }
-    ensures { Adjacent list.now result }
-{
-    let m = fields::cable_count(list);
-    let mut table = [0u16; ADJACENCY_PLACES];
-    let mut line = 0;
-    while line < m {
-        let a = fields::one_part(list, line);
-        let b = fields::other_part(list, line);
-        join(&mut table, a, b);
-        join(&mut table, b, a);
-        line += 1;
-    }
-    table
-}
-
-// Part w has a neighbour with this flag.
-pub fn has_neighbour(table: &Table, flags: &[bool; MOST_PARTS], w: Part, flag: bool) -> bool
-    requires table_fits { TableFits table.now }
-    requires w_lt_most_parts { w.0 < most_parts }
-    ensures { result ≡ has_neighbour table.now flags.now w.0 flag }
-{
-    let i = w.0 as usize;
-    let d = table[DEGREES + i] as usize;
-    let mut j = 0;
-    while j < d {
-        let q = table[MOST_DEGREE * i + j] as usize;
-        if flags[q] == flag {
-            return true;
+impl Adjacency {
+    // That of a list's cables.
+    #[tactic(auto, using(station::proofs::Passed::wired_words))]
+    pub fn of(list: &[u32]) -> Adjacency
+        requires { Wired (station_of list.now) }
+        ensures { Adjacent list.now result.table }
+    {
+        let none = Neighbours {
+            parts: [Part(0); MOST_DEGREE],
+            count: 0,
+        };
+        let mut table = [none; MOST_PARTS];
+        for line in 0..fields::cable_count(list) {
+            let a = fields::one_part(list, line);
+            let b = fields::other_part(list, line);
+            join(&mut table, a, b);
+            join(&mut table, b, a);
         }
-        j += 1;
+        Adjacency { table }
     }
-    false
+
+    // Part p's neighbours.
+    pub fn neighbours(&self, p: Part) -> &[Part]
+        requires { p.0 < most_parts }
+        ensures { numbers result.now ≡ neighbours_in self.now.table p.0 }
+    {
+        let neighbours = &self.table[p.0 as usize];
+        &neighbours.parts[..neighbours.count as usize]
+    }
+
+    // Part w has a neighbour with this flag.
+    pub fn has_neighbour(&self, flags: &[bool; MOST_PARTS], w: Part, flag: bool) -> bool
+        requires { w.0 < most_parts }
+        ensures { result ≡ has_neighbour self.now.table flags.now w.0 flag }
+    {
+        for &q in self.neighbours(w) {
+            if flags[q.0 as usize] == flag {
+                return true;
+            }
+        }
+        false
+    }
 }

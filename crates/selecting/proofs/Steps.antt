@@ -3,7 +3,7 @@
 use Prim.Native.Nat.{ℕ, ◌+◌, ◌<◌, ◌≤◌}
 use native.Mathlib.Omega.{arith}
 use native.Mathlib.Numerals.{add-one}
-use mathlib.Core.Path.{◌≡◌, refl, sym, ap, ◌∙◌}
+use mathlib.Core.Path.{◌≡◌, sym, ap, ◌∙◌}
 use mathlib.Core.List.{List, ◌∷◌, map}
 use lib.ListN.{length, get_or, drop, drop_of_length-le}
 use lib.Seq.{drop-cons}
@@ -11,8 +11,9 @@ use Rattle.words.specs.Words.{second_of}
 use Rattle.station.specs.Station.{station_of}
 use Rattle.geometry.specs.Spots.{Spot, spot_at}
 use Rattle.drawing.specs.Reading.{word_spot}
-use Rattle.validation.specs.Layout.{cable_place, Follows}
+use Rattle.validation.specs.Layout.{Follows}
 use Rattle.validation.specs.Facing.{line_over}
+use Rattle.directions.specs.Code.{corner_words}
 use Rattle.directions.proofs.Choosing.{AtCable, cable_first, cable_inside, cable_next}
 use Rattle.bounds.specs.declared.Bounds.{Bounds}
 use Rattle.bounds.specs.Boxes.{alone, grown, grown_by, box_of}
@@ -33,18 +34,15 @@ placing_start follows l e = record { is_line = l; few = omega arith; here = cabl
 
 module _ {list sheet : List ℕ} {line at i : ℕ} (P : Placing list sheet line at i) where
   -- it is in the sheet, and so are the corners that it counts
-  pub placing_inside : at + (1 + second_of (get_or sheet at 0)) ≤ length sheet
-  placing_inside = omega (arith, cable_inside P.here (omega (arith, P.is_line, P.few)))
+  pub placing_inside : at + 1 + second_of (get_or sheet at 0) ≤ length sheet
+  placing_inside = cable_inside P.here (omega (arith, P.is_line, P.few))
 
-  pub placing_next : i < line → {k : ℕ} → k ≡ second_of (get_or sheet at 0) → Placing list sheet line (at + (1 + k)) (i + 1)
-  placing_next l {k} e = record {
+  pub placing_next : i < line → {corners : List ℕ} → corners ≡ corner_words sheet at → Placing list sheet line (at + (1 + length corners)) (i + 1)
+  placing_next l e = record {
     is_line = P.is_line;
     few = omega arith;
-    here = let q : at + (1 + k) ≡ at + 1 + k = omega arith in rw q (cable_next P.here e);
+    here = cable_next P.here e (omega (arith, P.is_line, P.few));
   }
-
-  pub placing_end : line ≤ i → at ≡ cable_place (station_of list).parts sheet line
-  placing_end l = let e : i ≡ line = omega (arith, P.few) in P.here.place ∙ ap (cable_place (station_of list).parts sheet) e
 
 -- The box over a cable's corners
 
@@ -52,9 +50,6 @@ module _ {list sheet : List ℕ} {line at i : ℕ} (P : Placing list sheet line 
 pub record Growing (corners : List ℕ) (first bounds : Bounds) (k : ℕ) : Type 0 where
   pub few : k ≤ length corners
   pub rest : grown_by bounds (map word_spot (drop k corners)) ≡ grown_by first (map word_spot corners)
-
-pub growing_start : (corners : List ℕ) (first : Bounds) → Growing corners first first 0
-growing_start corners first = record { few = omega arith; rest = refl }
 
 module _ {corners : List ℕ} {first bounds : Bounds} {k : ℕ} (G : Growing corners first bounds k) where
   pub growing_next :

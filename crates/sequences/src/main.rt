@@ -4,120 +4,95 @@
 // row's words.
 #![tactic(auto)]
 
-use checks::Verdict;
-use console::{MOST_READ, read_input, say, say_number, say_refused, say_words};
-use editor::{Proposal, Proposed};
+ghost use Rattle.std.specs.Prelude.{◌<◌, length, IfSome};
+
+use console::{input_words, say_words, take_words};
+use editing::{commit, propose};
+use editor::Proposal;
 use std::io;
 
 // The longest row.
 const ROW: usize = 2048;
 
-fn say_proposal(rt: &impl Print, proposal: Proposal) -> io::Result<()> {
-    say(rt, b"proposal ")?;
-    say_number(rt, proposal.one as usize)?;
-    say(rt, b" ")?;
-    say_number(rt, proposal.other as usize)?;
-    say(rt, b" ")?;
-    say_number(rt, proposal.version as usize)?;
-    say(rt, b"\n")
+#[derive(Clone, Copy)]
+enum Operation {
+    Propose { one: u32, other: u32 },
+    Commit(Proposal),
 }
 
-fn propose(rt: &impl Print, row: &[u32], one: u32, other: u32) -> io::Result<()> {
-    match editing::propose(row, one, other) {
-        Proposed::Valid(proposal) => say_proposal(rt, proposal),
-        Proposed::Refused { check, place } => say_refused(rt, check, place),
-    }
-}
-
-fn commit(rt: &impl Print, row: &mut [u32], proposal: Proposal) -> io::Result<()> {
-    match editing::commit(row, proposal) {
-        Verdict::Passed => say(rt, b"committed\n"),
-        Verdict::Refused { check, place } => say_refused(rt, check, place),
-    }
-}
-
-// One operation on a row.
-fn operate(rt: &impl Print, row: &mut [u32], kind: u32, proposal: Proposal) -> io::Result<()> {
-    if kind == 0 {
-        propose(rt, row, proposal.one, proposal.other)
-    } else {
-        commit(rt, row, proposal)
-    }
-}
-
-// The operations, four words each, one after the other on a row.
-fn operate_all(rt: &impl Print, row: &mut [u32], operations: &[u32]) -> io::Result<()> {
-    let mut at = 0;
-    while at < operations.len() {
-        if operations.len() - at < 4 {
-            return Ok(());
+impl From<[u32; 4]> for Operation {
+    fn from(words: [u32; 4]) -> Self {
+        let [kind, one, other, version] = words;
+        if kind == 0 {
+            Operation::Propose { one, other }
+        } else {
+            Operation::Commit(Proposal {
+                one,
+                other,
+                version,
+            })
         }
-        let proposal = Proposal {
-            one: operations[at + 1],
-            other: operations[at + 2],
-            version: operations[at + 3],
+    }
+}
+
+// An operation on a row, and its answer printed.
+fn operate(rt: &impl Print, row: &mut [u32], operation: Operation) -> io::Result<()> {
+    match operation {
+        Operation::Propose { one, other } => match propose(row, one, other) {
+            Ok(
+                Proposal {
+                    one,
+                    other,
+                    version,
+                },
+            ) => println!(rt; "proposal {one} {other} {version}"),
+            Err(refusal) => println!(rt; "{refusal}"),
+        },
+        Operation::Commit(proposal) => match commit(row, proposal) {
+            Ok(()) => println!(rt; "committed"),
+            Err(refusal) => println!(rt; "{refusal}"),
+        },
+    }
+}
+
+#[derive(Clone, Copy)]
+struct Sequence<'a> {
+    row: &'a [u32],
+    operations: &'a [u32],
+}
+
+impl<'a> Sequence<'a> {
+    // The sequence at the front of the words, unless it is cut short.
+    fn take(words: &mut &'a [u32]) -> Option<Self>
+        ensures { IfSome result (λ _. length words.new.now < length words.old.now) }
+    {
+        let &[row, operations] = take_words::<2>(words)?;
+        Some(Sequence {
+            row: words.split_off(..row as usize)?,
+            operations: words.split_off(..4 * operations as usize)?,
+        })
+    }
+
+    // The operations one after the other on a copy of the row, and the row that they leave.
+    fn run(&self, rt: &impl Print) -> io::Result<()> {
+        let mut longest = [0u32; ROW];
+        let Some(row) = longest.get_mut(..self.row.len()) else {
+            return Ok(());
         };
-        operate(rt, row, operations[at], proposal)?;
-        at += 4;
-    }
-    Ok(())
-}
-
-// The words of a row, copied to the front of another.
-fn copy(from: &[u32], to: &mut [u32]) {
-    let mut i = 0;
-    while i < from.len() {
-        if to.len() <= i {
-            return;
+        row.copy_from_slice(self.row);
+        let (operations, _) = self.operations.as_chunks::<4>();
+        for &operation in operations {
+            operate(rt, row, Operation::from(operation))?;
         }
-        to[i] = from[i];
-        i += 1;
+        say_words(rt, row)
     }
-}
-
-// A sequence of operations on a row, and the row that it leaves.
-fn edit_row(rt: &impl Print, row: &mut [u32], operations: &[u32]) -> io::Result<()> {
-    operate_all(rt, row, operations)?;
-    say_words(rt, row)
-}
-
-// A sequence on a row of its own.
-fn edit(rt: &impl Print, start: &[u32], operations: &[u32]) -> io::Result<()> {
-    let n = start.len();
-    if n <= ROW {
-        let mut row = [0u32; ROW];
-        copy(start, &mut row);
-        edit_row(rt, &mut row[..n], operations)?;
-    }
-    Ok(())
-}
-
-// The sequences of a file, one behind the other.
-fn edit_all(rt: &impl Print, words: &[u32]) -> io::Result<()> {
-    let mut at = 0;
-    while at < words.len() {
-        if words.len() - at < 2 {
-            return Ok(());
-        }
-        let start = at + 2;
-        let row = words[at] as usize;
-        if words.len() - start < row {
-            return Ok(());
-        }
-        let middle = start + row;
-        let count = 4 * (words[at + 1] as usize);
-        if words.len() - middle < count {
-            return Ok(());
-        }
-        let end = middle + count;
-        edit(rt, &words[start..middle], &words[middle..end])?;
-        at = end;
-    }
-    Ok(())
 }
 
 fn main(rt: HostRuntime) -> io::Result<()> {
-    let mut words = [0u32; MOST_READ];
-    let count = read_input(&rt, &mut words)?;
-    edit_all(&rt, &words[..count])
+    let input = input_words(&rt)?;
+    let mut words = input.as_slice();
+    while let Some(sequence) = Sequence::take(&mut words) {
+        sequence.run(&rt)?;
+    }
+    Ok(())
 }

@@ -27,6 +27,7 @@ pub fn zero() -> Levels
 }
 
 // 'a gain adds and a loss subtracts'.
+#[tactic(auto, unfolding(levels::specs::Level::behind))]
 fn behind(level: f32, sort: Sort) -> f32
     ensures { result ≡ definition.behind level sort }
 {
@@ -38,6 +39,7 @@ fn behind(level: f32, sort: Sort) -> f32
 }
 
 // Both levels behind a part.
+#[tactic(auto, unfolding(levels::specs::Readings::both_behind))]
 pub fn both_behind(levels: Levels, sort: Sort) -> Levels
     ensures { result ≡ both_behind levels sort }
 {
@@ -47,6 +49,7 @@ pub fn both_behind(levels: Levels, sort: Sort) -> Levels
     }
 }
 
+// `f32::min` leaves open which of two zeros it gives; this comparison does not.
 fn lesser(a: f32, b: f32) -> f32
     ensures { result ≡ cond (Ieee.lt b a) b a }
 {
@@ -60,6 +63,7 @@ fn greater(a: f32, b: f32) -> f32
 }
 
 // The least and the greatest of both.
+#[tactic(auto, unfolding(levels::specs::Readings::together))]
 pub fn together(a: Levels, b: Levels) -> Levels
     ensures { result ≡ readings.together a b }
 {

@@ -2,105 +2,104 @@
 ghost use Rattle.std.specs.Prelude.{◌≡◌, ◌≤◌, length};
 ghost use Rattle.checks.specs.Checks.{first_refusal};
 ghost use Rattle.levels.specs.Level.{sort_in};
-ghost use Rattle.levels.specs.Sorts.{misformed, check17, misnumbered, check18, sort_checks};
+ghost use Rattle.levels.specs.Sorts.{misformed, check17, check17_count, misnumbered, check18, sort_checks};
+ghost use Rattle.signals.specs.Numbers.{NamesSort};
 
 use crate::decibels::level_of;
-use checks::Verdict;
+use checks::{Fault, Refusal};
 use levels::Sort;
 use listing::fields::part_count;
-use lists::Found;
-use words::Word;
+use words::{Kind, Word};
+
+// The sorts of parts by their numbers: 'a joint without a number, 1 a pad with its loss, 2 an amplifier with its gain'.
+#[derive(Clone, Copy, Debug, PartialEq, Eq)]
+pub enum PartSort {
+    Joint,
+    Pad,
+    Amplifier,
+}
+
+// A number of no sort.
+#[derive(Clone, Copy, Debug, PartialEq, Eq)]
+pub struct UnknownSort(pub u32);
+
+impl TryFrom<u32> for PartSort {
+    type Error = UnknownSort;
+
+    ghost try_from_gives = { NamesSort };
+
+    fn try_from(number: u32) -> Result<Self, UnknownSort> {
+        match number {
+            0 => Ok(PartSort::Joint),
+            1 => Ok(PartSort::Pad),
+            2 => Ok(PartSort::Amplifier),
+            _ => Err(UnknownSort(number)),
+        }
+    }
+}
 
 // 'bits 15 to 0 count 1/64 dB up to 6,400'.
 pub const MOST_STEPS: u16 = 6400;
 
 // The part that a word stands for, its number converted from 1/64 dB.
+#[tactic(auto, unfolding(levels::specs::Level::sort_in))]
 pub fn sort_of(word: u32) -> Sort
     ensures { result ≡ sort_in word }
 {
-    let sort = Word(word).sort();
     let level = level_of(Word(word).steps());
-    if sort == Word::PAD {
-        return Sort::Pad(level);
+    match PartSort::try_from(Word(word).sort()) {
+        Ok(PartSort::Pad) => Sort::Pad(level),
+        Ok(PartSort::Amplifier) => Sort::Amplifier(level),
+        _ => Sort::Joint,
     }
-    if sort == Word::AMPLIFIER {
-        return Sort::Amplifier(level);
-    }
-    Sort::Joint
 }
 
 // A word 'of wrong kind, sort or spare bits'.
+#[tactic(auto, unfolding(levels::specs::Sorts::misformed))]
 fn is_misformed(word: u32) -> bool
     ensures { result ≡ misformed word }
 {
-    if Word(word).kind() != Word::PART_SORT_KIND {
-        return true;
-    }
-    if Word::AMPLIFIER < Word(word).sort() {
-        return true;
-    }
-    Word(word).sort_spare() != 0
+    let sort = PartSort::try_from(Word(word).sort());
+    !Word(word).is(Kind::PartSort) || sort.is_err() || Word(word).sort_spare() != 0
 }
 
 // 17: 'the first such word', wherever it stands.
-fn misformed_word(row: &[u32]) -> Found
+fn misformed_word(row: &[u32]) -> Option<usize>
     ensures { result ≡ check17 row.now }
 {
-    let mut i = 0;
-    while i < row.len() {
-        if is_misformed(row[i]) {
-            return Found::At(i);
-        }
-        i += 1;
-    }
-    Found::Nothing
+    row.iter().position(|&word| is_misformed(word))
 }
 
 // 'a number above 6,400 or not 0 at a joint'.
+#[tactic(auto, unfolding(levels::specs::Sorts::misnumbered))]
 fn is_misnumbered(word: u32) -> bool
     ensures { result ≡ misnumbered word }
 {
     let steps = Word(word).steps();
-    if MOST_STEPS < steps {
-        return true;
-    }
-    if Word(word).sort() == Word::JOINT {
-        return steps != 0;
-    }
-    false
+    MOST_STEPS < steps || PartSort::try_from(Word(word).sort()) == Ok(PartSort::Joint) && steps != 0
 }
 
 // 18: 'the lowest such part'.
-fn misnumbered_part(row: &[u32]) -> Found
+fn misnumbered_part(row: &[u32]) -> Option<usize>
     ensures { result ≡ check18 row.now }
 {
-    let mut p = 0;
-    while p < row.len() {
-        if is_misnumbered(row[p]) {
-            return Found::At(p);
-        }
-        p += 1;
-    }
-    Found::Nothing
+    row.iter().position(|&word| is_misnumbered(word))
+}
+
+// 17, 'n where only the number of words is wrong'.
+#[tactic(auto, unfolding(levels::specs::Sorts::check17_count, checks::specs::Checks::at_when))]
+fn wrong_count(row: &[u32], n: usize) -> Option<usize>
+    ensures { result ≡ check17_count n row.now }
+{
+    (row.len() != n).then_some(n)
 }
 
 // 17 and 18, of the row beside a list.
-pub fn check_sorts(list: &[u32], row: &[u32]) -> Verdict
+pub fn check_sorts(list: &[u32], row: &[u32]) -> Result<(), Refusal>
     requires { 2 ≤ length list.now }
     ensures { result ≡ first_refusal (sort_checks row.now) list.now }
 {
-    if let Found::At(place) = misformed_word(row) {
-        return Verdict::Refused { check: 17, place };
-    }
-    let n = part_count(list);
-    if row.len() != n {
-        return Verdict::Refused {
-            check: 17,
-            place: n,
-        };
-    }
-    if let Found::At(place) = misnumbered_part(row) {
-        return Verdict::Refused { check: 18, place };
-    }
-    Verdict::Passed
+    Fault::MisformedSort.refuse(misformed_word(row))?;
+    Fault::MisformedSort.refuse(wrong_count(row, part_count(list)))?;
+    Fault::MisnumberedSort.refuse(misnumbered_part(row))
 }

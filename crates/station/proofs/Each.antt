@@ -1,4 +1,5 @@
 -- What each of checks 1 to 8 says of a list's words where it finds nothing. Assumes nothing.
+use Rattle.std.specs.Prelude.{Option, None}
 use Prim.Native.Nat.{ℕ, ◌+◌, ◌-◌, ◌≤◌, ◌<◌}
 use mathlib.Core.Path.{◌≡◌, refl, sym, ◌∙◌}
 use mathlib.Core.Logic.{◌⊎◌, inl, inr}
@@ -9,14 +10,12 @@ use native.Mathlib.Decide.{ℕ_discrete}
 use borrow.Author.Tests.{ltb-false, leb-false, eqb-true, eqb-false, eq-eqb, ne_eqb, not-false}
 use lib.ListN.{length, get_or}
 use lib.Dec.{eqb, ltb, leb}
-use Rattle.lists.specs.declared.Found.{Found}
-use Rattle.lists.specs.declared.Found.TheVariants.{Nothing}
 use Rattle.lists.proofs.Bools.{or_right, or_fails, and_fails}
 use Rattle.lists.proofs.Seek.{seek_nothing}
 use Rattle.words.specs.Words.{kind_of, spare_of, first_of, second_of, parts_of, cables_of, ends, cable}
 use Rattle.words.specs.Limits.{least_parts, most_parts, most_degree}
 use Rattle.station.specs.Station.{station_of, degree}
-use Rattle.checks.specs.Checks.{Check, Clear}
+use Rattle.checks.specs.Checks.{Check, Clear, number_of}
 use Rattle.station.specs.Checks.{check1, kind_at, misplaced, check2, check3, check4, outside, check5, check6, check8, list_checks}
 use Rattle.station.specs.Code.{up_to}
 use Rattle.checks.proofs.FirstRefusal.{at_when_nothing}
@@ -47,22 +46,22 @@ kind_at_later i h = go (ℕ_discrete i 1)
     go (no n) = inr (rw (ne_eqb i 0 (λ q. omega arith), ne_eqb i 1 n))
 
 -- what the first check of a number finds
-numbered : ℕ → List Check → List ℕ → Found
-numbered n [] list = Nothing
-numbered n (c ∷ cs) list = cond (eqb n c.number) (c.finds list) (numbered n cs list)
+numbered : ℕ → List Check → List ℕ → Option ℕ
+numbered n [] list = None
+numbered n (c ∷ cs) list = cond (eqb n (number_of c.fault)) (c.finds list) (numbered n cs list)
 
 numbered_nothing :
-    (n : ℕ) (cs : List Check) (list : List ℕ) → ((c : Check) → Memᴰ c cs → c.number ≡ n → c.finds list ≡ Nothing) → numbered n cs list ≡ Nothing
+    (n : ℕ) (cs : List Check) (list : List ℕ) → ((c : Check) → Memᴰ c cs → number_of c.fault ≡ n → c.finds list ≡ None) → numbered n cs list ≡ None
 unfolding numbered
 numbered_nothing n [] list h = refl
-numbered_nothing n (c ∷ cs) list h = go (eqb n c.number) refl (numbered_nothing n cs list (λ d m. h d (Memᴰ.tail m)))
+numbered_nothing n (c ∷ cs) list h = go (eqb n (number_of c.fault)) refl (numbered_nothing n cs list (λ d m. h d (Memᴰ.tail m)))
   where
-    go : (b : Bool) → eqb n c.number ≡ b → numbered n cs list ≡ Nothing → cond b (c.finds list) (numbered n cs list) ≡ Nothing
-    go true e rest = h c (Memᴰ.head refl) (sym (eqb-true n c.number e))
+    go : (b : Bool) → eqb n (number_of c.fault) ≡ b → numbered n cs list ≡ None → cond b (c.finds list) (numbered n cs list) ≡ None
+    go true e rest = h c (Memᴰ.head refl) (sym (eqb-true n (number_of c.fault) e))
     go false e rest = rest
 
 module _ (list : List ℕ) (k : ℕ) (C : Clear (up_to k) list) where
-  nothing : (n : ℕ) → n ≤ k → numbered n list_checks list ≡ Nothing
+  nothing : (n : ℕ) → n ≤ k → numbered n list_checks list ≡ None
   nothing n h = numbered_nothing n list_checks list (λ c m e. up_to_each list k C m (omega arith))
 
   pub two_words : 1 ≤ k → 2 ≤ length list

@@ -1,4 +1,5 @@
 -- Laws of checks 1 to 8 and of the station that a list describes. Assumes nothing.
+use Rattle.checks.specs.Checks.{passed}
 pub mod Computing
 pub mod Worked
 pub mod Numbers

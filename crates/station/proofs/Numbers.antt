@@ -1,5 +1,6 @@
 -- The numbers that a refusal by checks 1 to 8, or by these and the ones behind them, can have: 'check 7 no longer occurs and its number
 -- stays empty' (request 2026-12). Assumes nothing.
+use Rattle.checks.specs.declared.Fault.{Fault}
 use Prim.Native.Nat.{ℕ, ◌+◌, ◌≤◌}
 use native.Mathlib.Omega.{arith}
 use mathlib.Core.Path.{◌≡◌, refl, subst}
@@ -8,8 +9,7 @@ use mathlib.Core.List.Memᴰ
 use mathlib.Core.List.{List, ◌++◌, map, Memᴰ}
 use Rattle.lists.specs.Select.{up_from}
 use Rattle.lists.proofs.Select.{up_from_e}
-use Rattle.checks.specs.declared.Verdict.TheVariants.{Refused}
-use Rattle.checks.specs.Checks.{Check, first_refusal}
+use Rattle.checks.specs.Checks.{Check, first_refusal, refused, number_of}
 use Rattle.checks.proofs.FirstRefusal.{refused_number}
 use Rattle.station.specs.Checks.{list_checks}
 use Rattle.station.proofs.Computing.{station_computing}
@@ -27,9 +27,9 @@ without_7 k {check} m = go (Memᴰ.append_cases (up_from 1 6) m)
     go (inl n) = let b = up_from_e 1 6 n in record { least = b.0; most = omega (arith, b.1); not_7 = λ h. omega (arith, b.1) }
     go (inr n) = let b = up_from_e 8 k n in record { least = omega (arith, b.0); most = omega (arith, b.1); not_7 = λ h. omega (arith, b.0) }
 
-numbered : map (λ (c : Check). c.number) list_checks ≡ up_from 1 6 ++ up_from 8 1
+numbered : map (λ (c : Check). number_of c.fault) list_checks ≡ up_from 1 6 ++ up_from 8 1
 unfolding station_computing
 numbered = refl
 
-pub list_number : (list : List ℕ) {check place : ℕ} → first_refusal list_checks list ≡ Refused check place → Numbered 8 check
-list_number list {check} e = without_7 1 (subst (Memᴰ check) numbered (refused_number list list_checks e))
+pub list_number : (list : List ℕ) {check : Fault} {place : ℕ} → first_refusal list_checks list ≡ refused check place → Numbered 8 (number_of check)
+list_number list {check} e = without_7 1 (subst (Memᴰ (number_of check)) numbered (refused_number list list_checks e))

@@ -1,12 +1,11 @@
 -- Checks 1 to 8 with any limit of parts: what check 4 finds with it, and that `list_checks` has the limit of today. Assumes nothing.
+use Rattle.std.specs.Prelude.{Some}
 use Prim.Native.Nat.{ℕ, ◌<◌, ◌≤◌}
 use mathlib.Core.Path.{◌≡◌, refl, ap, sym, ◌∙◌}
 use mathlib.Core.Bool.{Bool, ◌||◌, or-true}
 use mathlib.Core.List.{List}
 use lib.Dec.{ltb}
 use borrow.Author.Tests.{lt-ltb, le-ltb}
-use Rattle.lists.specs.declared.Found.{Found}
-use Rattle.lists.specs.declared.Found.TheVariants.{At}
 use Rattle.words.specs.Limits.{least_parts, most_parts}
 use Rattle.checks.specs.Checks.{Check, at_when}
 use Rattle.station.specs.Station.{station_of}
@@ -26,7 +25,7 @@ module _ (list : List ℕ) where
       ap (λ (t : Bool). at_when (ltb n least_parts || t) n) (le-ltb a n h ∙ sym (le-ltb b n g))
 
   -- above one it finds n
-  pub found_above : (a : ℕ) → a < (station_of list).parts → check4_within a list ≡ At (station_of list).parts
+  pub found_above : (a : ℕ) → a < (station_of list).parts → check4_within a list ≡ Some (station_of list).parts
   unfolding station_of check4_within at_when
   found_above a h =
       let n : ℕ = (station_of list).parts in

@@ -1,4 +1,5 @@
 -- A list in which no cable is repeated describes a simple graph. Assumes nothing.
+use Rattle.std.specs.Prelude.{None}
 use Prim.Native.Nat.{ℕ, ◌+◌, ◌-◌, ◌<◌, ◌≤◌}
 use native.Mathlib.Omega.{arith}
 use native.Mathlib.Decide.{dec_lt}
@@ -9,7 +10,6 @@ use mathlib.Core.List.{List}
 use lib.ListN.{length, get_or}
 use lib.Dec.{eqb}
 use borrow.Author.Tests.{eq-eqb}
-use Rattle.lists.specs.declared.Found.TheVariants.{Nothing}
 use Rattle.lists.proofs.Bools.{or_right}
 use Rattle.lists.proofs.Search.{not_found}
 use Rattle.lists.proofs.Seek.{seek_nothing}
@@ -29,7 +29,7 @@ same_parts_lem v w (inr e) =
     or_right (eqb (first_of v) (first_of w) && eqb (second_of v) (second_of w)) (eqb (first_of v) (second_of w) && eqb (second_of v) (first_of w))
     (rw (eq-eqb (first_of v) (second_of w) e.0, eq-eqb (second_of v) (first_of w) e.1))
 
-module _ (list : List ℕ) (none : first_repeat list ≡ Nothing) where
+module _ (list : List ℕ) (none : first_repeat list ≡ None) where
   unrepeated : (i j : ℕ) → 2 ≤ i → i < j → j < length list → same_parts (get_or list i 0) (get_or list j 0) ≡ false
   unfolding first_repeat repeated
   unrepeated i j a b l =

@@ -1,4 +1,5 @@
 -- The tests of checks 1 to 8, from the facts that the code's branches leave. Assumes nothing.
+use Rattle.std.specs.Prelude.{Some, None}
 use Prim.Native.Nat.{ℕ, ◌+◌, ◌≤◌, ◌<◌}
 use mathlib.Core.Path.{◌≡◌, refl, ◌∙◌}
 use mathlib.Core.Bool.{Bool, true, false, cond, not, ◌||◌}
@@ -7,7 +8,6 @@ use borrow.Author.Tests.{eq-eqb, ne_eqb, lt-ltb, le-ltb, le-leb, lt-leb}
 use mathlib.Core.List.{List}
 use lib.ListN.{length, get_or}
 use lib.Dec.{eqb, ltb, leb}
-use Rattle.lists.specs.declared.Found.TheVariants.{At, Nothing}
 use Rattle.words.specs.Words.{kind_of, spare_of, first_of, second_of, parts_of, cables_of, list_head, ends, cable}
 use Rattle.words.specs.Limits.{least_parts, most_parts, most_degree}
 use Rattle.checks.specs.Checks.{at_when}
@@ -41,23 +41,23 @@ misplaced_spare i w h n =
 
 -- ---- checks 3 and 4
 module _ (list : List ℕ) where
-  pub length_off : (length list ≡ cables_of (get_or list 0 0) + 2 → ⊥) → At (cables_of (get_or list 0 0) + 2) ≡ check3 list
+  pub length_off : (length list ≡ cables_of (get_or list 0 0) + 2 → ⊥) → Some (cables_of (get_or list 0 0) + 2) ≡ check3 list
   unfolding check3 at_when
   length_off h = rw (ne_eqb (length list) (cables_of (get_or list 0 0) + 2) h)
 
-  pub length_right : length list ≡ cables_of (get_or list 0 0) + 2 → Nothing ≡ check3 list
+  pub length_right : length list ≡ cables_of (get_or list 0 0) + 2 → None ≡ check3 list
   unfolding check3 at_when
   length_right h = rw (eq-eqb (length list) (cables_of (get_or list 0 0) + 2) h)
 
-  pub parts_few : parts_of (get_or list 0 0) < least_parts → At (parts_of (get_or list 0 0)) ≡ check4 list
+  pub parts_few : parts_of (get_or list 0 0) < least_parts → Some (parts_of (get_or list 0 0)) ≡ check4 list
   unfolding check4 at_when
   parts_few h = rw (lt-ltb (parts_of (get_or list 0 0)) least_parts h)
 
-  pub parts_many : most_parts < parts_of (get_or list 0 0) → At (parts_of (get_or list 0 0)) ≡ check4 list
+  pub parts_many : most_parts < parts_of (get_or list 0 0) → Some (parts_of (get_or list 0 0)) ≡ check4 list
   unfolding check4 at_when
   parts_many h = rw (le-ltb (parts_of (get_or list 0 0)) least_parts (omega arith), lt-ltb most_parts (parts_of (get_or list 0 0)) h)
 
-  pub parts_right : least_parts ≤ parts_of (get_or list 0 0) → parts_of (get_or list 0 0) ≤ most_parts → Nothing ≡ check4 list
+  pub parts_right : least_parts ≤ parts_of (get_or list 0 0) → parts_of (get_or list 0 0) ≤ most_parts → None ≡ check4 list
   unfolding check4 at_when
   parts_right h k = rw (le-ltb (parts_of (get_or list 0 0)) least_parts h, le-ltb most_parts (parts_of (get_or list 0 0)) k)
 

@@ -3,12 +3,12 @@ use Rattle.std.specs.Prelude.{ℕ, ◌<◌, ◌≤◌, ◌≡◌, List, length, 
 use Rattle.lists.specs.Select.{filter}
 use Rattle.words.specs.Limits.{least_parts, most_parts, most_degree}
 use Rattle.station.specs.Station.{no_cable, Station, degree}
-use Rattle.checks.specs.Checks.{Check}
+use Rattle.checks.specs.Checks.{Check, number_of}
 use Rattle.station.specs.Checks.{list_checks}
 
 -- the checks of a number up to k
 abbrev pub up_to : ℕ → List Check
-up_to k = filter (λ c. leb c.number k) list_checks
+up_to k = filter (λ c. leb (number_of c.fault) k) list_checks
 
 -- What checks 1 to 8 leave of a station: 3 to 512 parts, two different ends, cables between different parts, at most four at a part. Part
 -- 0, which is read beyond the last line, is a part too, and no cable joins a number that is no part's.

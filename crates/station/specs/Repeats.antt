@@ -1,7 +1,6 @@
 -- Repeated cables, which request 2026-12 allows: the condition of document 01's check 7, and simple graphs, which have none. Assumes
 -- nothing.
-use Rattle.std.specs.Prelude.{ℕ, ◌-◌, ◌<◌, ◌≡◌, ◌⊎◌, Bool, ◌&&◌, ◌||◌, List, length, get_or, eqb}
-use Rattle.lists.specs.declared.Found.{Found}
+use Rattle.std.specs.Prelude.{ℕ, ◌-◌, ◌<◌, ◌≡◌, ◌⊎◌, Bool, ◌&&◌, ◌||◌, List, length, get_or, eqb, Option}
 use Rattle.lists.specs.Search.{seek, is_found}
 use Rattle.words.specs.Words.{first_of, second_of}
 use Rattle.station.specs.Station.{Cable, no_cable, Station}
@@ -16,7 +15,7 @@ unfoldable pub repeated : List ℕ → ℕ → Bool
 repeated list i = is_found (seek (λ j. same_parts (get_or list j 0) (get_or list i 0)) 2 (i - 2))
 
 -- 'first such later word'
-unfoldable pub first_repeat : List ℕ → Found
+unfoldable pub first_repeat : List ℕ → Option ℕ
 first_repeat list = seek (repeated list) 2 (length list - 2)
 
 -- two cables join the same two parts, either way round

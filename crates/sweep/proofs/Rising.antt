@@ -1,5 +1,6 @@
 -- Two lines may be held against each other either way round, and a search over pairs finds the lowest line of a pair with its lower line
 -- first. Assumes nothing.
+use Rattle.std.specs.Prelude.{Some, None}
 use Prim.Native.Nat.{ℕ, ◌<◌, ◌≤◌}
 use native.Mathlib.Omega.{arith}
 use native.Mathlib.Decide.{dec_lt}
@@ -9,7 +10,6 @@ use mathlib.Core.List.{List}
 use lib.ListN.{length}
 use lib.Dec.{eqb, ltb}
 use borrow.Author.Tests.{eq-eqb, eqb-true, ltb-true, ltb-false, not-true}
-use Rattle.lists.specs.declared.Found.TheVariants.{At, Nothing}
 use Rattle.lists.specs.Search.{seek}
 use Rattle.lists.specs.Select.{any, range}
 use Rattle.lists.proofs.Bools.{and_e, and_i, not_e, not_i, same_test}
@@ -59,13 +59,13 @@ pair_either d i j L K F G =
 -- the lowest that passes, or the count where none does, is what a search finds
 pub lowest_seek :
     (p : ℕ → Bool) (m k : ℕ) → k ≤ m → (k < m → p k ≡ true) → ((i : ℕ) → i < m → p i ≡ true → k ≤ i)
-    → seek p 0 m ≡ cond (ltb k m) (At k) Nothing
+    → seek p 0 m ≡ cond (ltb k m) (Some k) None
 lowest_seek p m k l f g = go (ltb k m) refl
   where
     below : (i : ℕ) → i < k → i < m → p i ≡ false
     below i a b = not-true (p i) (not_i (p i) λ h. omega (arith, g i b h))
 
-    go : (b : Bool) → ltb k m ≡ b → seek p 0 m ≡ cond b (At k) Nothing
+    go : (b : Bool) → ltb k m ≡ b → seek p 0 m ≡ cond b (Some k) None
     go true e =
         let h = ltb-true k m e in
         seek_first p 0 m record { from = omega arith; below = omega arith; passes = f h; none = λ j a b. below j b (omega arith) }
@@ -76,7 +76,7 @@ pub lowest_of_pairs :
     (w : ℕ → ℕ → Bool) (m k : ℕ) → k ≤ m → (k < m → (j : ℕ) × (k < j) × (j < m) × (w k j ≡ true))
     → ((i j : ℕ) → i < j → j < m → w i j ≡ true → k ≤ i)
     → ((i j : ℕ) → i < m → j < m → (i ≡ j → ⊥) → w i j ≡ w j i)
-    → seek (λ i. any (λ j. not (eqb i j) && w i j) (range m)) 0 m ≡ cond (ltb k m) (At k) Nothing
+    → seek (λ i. any (λ j. not (eqb i j) && w i j) (range m)) 0 m ≡ cond (ltb k m) (Some k) None
 lowest_of_pairs w m k l f g s = lowest_seek (λ i. any (λ j. not (eqb i j) && w i j) (range m)) m k l found lowest
   where
     found : k < m → any (λ j. not (eqb k j) && w k j) (range m) ≡ true

@@ -1,4 +1,5 @@
 -- What the two numbers that a sweep finds say of a sheet is what check 20 says of it. Assumes nothing.
+use Rattle.std.specs.Prelude.{Some, None}
 use Prim.Native.Nat.{ℕ, ◌<◌, ◌≤◌}
 use native.Mathlib.Omega.{arith}
 use native.Mathlib.Decide.{dec_lt}
@@ -8,7 +9,6 @@ use mathlib.Core.List.{List, Memᴰ}
 use lib.ListN.{length, get_or}
 use lib.Dec.{ltb}
 use borrow.Author.Tests.{lt-ltb, le-ltb, not-true, not-false}
-use Rattle.lists.specs.declared.Found.TheVariants.{At, Nothing}
 use Rattle.lists.specs.Search.{seek}
 use Rattle.lists.specs.Select.{any, range}
 use Rattle.lists.proofs.Bools.{or_left, or_right, not_e, not_i, same_test}
@@ -273,7 +273,7 @@ module _
           badly_same i j l k ∙ ap not (pair_either d i j (lone_line i l) (lone_line j k) (in_head i l) (in_head j k))
           ∙ sym (badly_same j i k l)
 
-      pairs_sought : seek (λ i. any (wrong_pair st forth i) (range m)) 0 m ≡ cond (ltb pair lines) (At pair) Nothing
+      pairs_sought : seek (λ i. any (wrong_pair st forth i) (range m)) 0 m ≡ cond (ltb pair lines) (Some pair) None
       unfolding wrong_pair
       pairs_sought =
           rw (← all)
@@ -288,7 +288,7 @@ module _
     -- the lowest line that is wrong by itself: of those that are swept, or the next
     alone_sought :
         (k : ℕ) → k ≤ m → (k < m → wrong_alone st forth k ≡ true) → k ≤ lines → k ≤ alone
-        → seek (wrong_alone st forth) 0 m ≡ cond (ltb k m) (At k) Nothing
+        → seek (wrong_alone st forth) 0 m ≡ cond (ltb k m) (Some k) None
     alone_sought k g f b c = lowest_seek (wrong_alone st forth) m k g f λ i l h. lowest i h (dec_lt i lines)
       where
         lowest : (i : ℕ) → wrong_alone st forth i ≡ true → Dec (i < lines) → k ≤ i

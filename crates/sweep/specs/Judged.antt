@@ -1,8 +1,6 @@
 -- The sweep of a sheet: each cable in the direction that a look along its line gives, and what the two numbers that the sweep finds say.
 -- Assumes nothing.
-use Rattle.std.specs.Prelude.{ℕ, ◌<◌, ◌≤◌, ◌≡◌, Bool, true, false, cond, List, length, get_or, ltb}
-use Rattle.lists.specs.declared.Found.{Found}
-use Rattle.lists.specs.declared.Found.TheVariants.{At, Nothing}
+use Rattle.std.specs.Prelude.{ℕ, ◌<◌, ◌≤◌, ◌≡◌, Bool, true, false, cond, List, length, get_or, ltb, Option, Some, None}
 use Rattle.lists.specs.Select.{tabulate}
 use Rattle.station.specs.Station.{Station, no_cable}
 use Rattle.drawing.specs.Drawing.{Drawing, spot_of, route_at}
@@ -37,5 +35,5 @@ faced_drawing st sheet forward lines = drawing_in st.parts (ends_faced st forwar
 
 -- Of so many lines out of m, the lowest that is wrong by itself and the lowest of a pair that meets wrongly, each the count of lines where
 -- there is none: what 20 says.
-unfoldable pub judged : ℕ → ℕ → ℕ → ℕ → Found
-judged alone pair lines m = cond (ltb alone lines) (At alone) (cond (ltb lines m) (At lines) (cond (ltb pair lines) (At pair) Nothing))
+unfoldable pub judged : ℕ → ℕ → ℕ → ℕ → Option ℕ
+judged alone pair lines m = cond (ltb alone lines) (Some alone) (cond (ltb lines m) (Some lines) (cond (ltb pair lines) (Some pair) None))

@@ -1,18 +1,12 @@
--- What the two numbers that a sweep finds say, from the facts that the code's branches leave; and that they are what 20 finds. Assumes
--- nothing.
-use Prim.Native.Nat.{ℕ, ◌+◌, ◌<◌, ◌≤◌}
-use native.Mathlib.Omega.{arith}
+-- The two numbers that a sweep finds are what 20 finds. Assumes nothing.
+use Prim.Native.Nat.{ℕ, ◌+◌}
 use mathlib.Core.Path.{◌≡◌, refl}
 use mathlib.Core.Bool.{Bool}
 use mathlib.Core.List.{List}
 use lib.ListN.{length, get_or}
-use borrow.Author.Tests.{lt-ltb, le-ltb}
-use Rattle.lists.specs.declared.Found.TheVariants.{At, Nothing}
-use Rattle.words.specs.Limits.{most_cables}
 use Rattle.checks.specs.Checks.{Clear}
 use Rattle.station.specs.Station.{station_of}
 use Rattle.order.specs.Checks.{all_checks}
-use Rattle.order.proofs.Passed.{lines_most}
 use Rattle.validation.specs.Layout.{Follows}
 use Rattle.validation.specs.Rules.{check20}
 use Rattle.sweep.specs.Boards.{lowest_place}
@@ -20,32 +14,6 @@ use Rattle.sweep.specs.Sweep.{rows_alone, rows_pair, blank, alone_places, pair_p
 use Rattle.sweep.specs.Judged.{Faced, faced_drawing, judged}
 use Rattle.sweep.proofs.FacedDrawing.{lines_counted}
 use Rattle.sweep.proofs.SweptSheet.{swept_judged}
-use Rattle.sweeping.specs.Code.{Sweepable}
-
-module _ (alone pair lines cables : ℕ) where
-  pub judged_alone : alone < lines → At alone ≡ judged alone pair lines cables
-  unfolding judged
-  judged_alone h = rw (lt-ltb alone lines h)
-
-  pub judged_next : lines ≤ alone → lines < cables → At lines ≡ judged alone pair lines cables
-  unfolding judged
-  judged_next h k = rw (le-ltb alone lines h, lt-ltb lines cables k)
-
-  module _ (h : lines ≤ alone) (k : cables ≤ lines) where
-    pub judged_pair : pair < lines → At pair ≡ judged alone pair lines cables
-    unfolding judged
-    judged_pair l = rw (le-ltb alone lines h, le-ltb lines cables k, lt-ltb pair lines l)
-
-    pub judged_none : lines ≤ pair → Nothing ≡ judged alone pair lines cables
-    unfolding judged
-    judged_none l = rw (le-ltb alone lines h, le-ltb lines cables k, le-ltb pair lines l)
-
--- the lines that were chosen can be swept
-pub sweepable :
-    {list sheet : List ℕ} {forward : List Bool} {lines : ℕ} → Clear all_checks list
-    → Follows (station_of list).parts (length (station_of list).cables) sheet → most_cables ≤ length forward
-    → Faced (station_of list) sheet forward lines → Sweepable list sheet forward lines
-sweepable {list} pass F h Z = record { passed = pass; layout = F; flags = omega (arith, lines_most list pass, Z.few); few = Z.few }
 
 module _ (list sheet : List ℕ) (forward : List Bool) (lines : ℕ) (alone pairs : List ℕ)
     (pass : Clear all_checks list) (F : Follows (station_of list).parts (length (station_of list).cables) sheet)

@@ -1,122 +1,77 @@
 // The spots of a cable's line in one row, each visited once: its points, and what lies between two neighbouring points.
-ghost use Rattle.std.specs.Prelude.{◌≡◌, true, false, ◌&&◌, map, ◌-◌, ◌<◌, ◌≤◌, min, max, ltb};
+ghost use Rattle.std.specs.Prelude.{◌-◌, ◌<◌, ◌≤◌};
 ghost use Rattle.geometry.specs.Spots.{spot_in};
-ghost use Rattle.drawing.specs.Reading.{word_spot};
-ghost use Rattle.sweep.specs.Visits.{level_visits, open_visits, line_visits};
-ghost use Rattle.sweep.specs.Boards.{visits_alone, visits_pair};
-ghost use Rattle.directions.specs.Code.{strand_in};
-ghost use Rattle.boards.specs.Code.{Ready};
-ghost use Rattle.sweeping.specs.Code.{point_visits};
+ghost use Rattle.sweep.specs.Visits.{level_visits, open_visits};
+ghost use Rattle.directions.specs.Code.{strand_in, trace_of};
+ghost use Rattle.sweeping.specs.Code.{point_visits, visits_along, Visited};
 
-use boards::visit;
-use directions::strands::{Strand, spot_in};
-use geometry::Spot;
-use lists::{higher, lower};
+use boards::{Boards, Visit};
+use directions::strands::{Line, Strand, spot_in};
+use geometry::{Spot, lies_between};
 
 // A point of the line, where it is in the row: a corner is on a level and on an upright run, an end counts as neither.
-fn visit_point(
-    alone: &mut [u32],
-    pairs: &mut [u32],
-    y: u16,
-    strand: Strand,
-    spot: Spot,
-    corner: bool,
-)
-    requires ready { Ready alone.old pairs.old strand }
-    requires x_bound { spot.x < 4096 }
-    ensures alone_after { alone.new ≡ visits_alone y (strand_in strand) alone.old (point_visits y (spot_in spot) corner) }
-    ensures pairs_after { pairs.new ≡ visits_pair y strand.line pairs.old (point_visits y (spot_in spot) corner) }
+fn visit_point(boards: &mut Boards, strand: Strand, spot: Spot, corner: bool)
+    requires { spot.x < 4096 }
+    ensures { Visited (strand_in strand) boards.old (point_visits boards.old.row (spot_in spot) corner) boards.new }
 {
-    if spot.y == y {
-        visit(alone, pairs, y, strand, spot.x as usize, corner, corner);
+    if spot.y == boards.row {
+        let visit = Visit {
+            column: spot.x as usize,
+            level: corner,
+            upright: corner,
+        };
+        boards.visit(strand, visit);
     }
 }
 
 // Columns of a level run.
-fn visit_columns(
-    alone: &mut [u32],
-    pairs: &mut [u32],
-    y: u16,
-    strand: Strand,
-    from: usize,
-    to: usize,
-)
-    requires ready { Ready alone.old pairs.old strand }
-    requires to_bound { to ≤ 4096 }
-    ensures alone_after { alone.new ≡ visits_alone y (strand_in strand) alone.old (level_visits from (to - from)) }
-    ensures pairs_after { pairs.new ≡ visits_pair y strand.line pairs.old (level_visits from (to - from)) }
+fn visit_columns(boards: &mut Boards, strand: Strand, from: usize, to: usize)
+    requires { to ≤ 4096 }
+    ensures { Visited (strand_in strand) boards.old (level_visits from (to - from)) boards.new }
 {
-    let mut x = from;
-    while x < to {
-        visit(alone, pairs, y, strand, x, true, false);
-        x += 1;
+    for column in from..to {
+        let visit = Visit {
+            column,
+            level: true,
+            upright: false,
+        };
+        boards.visit(strand, visit);
     }
-}
-
-// y lies strictly between two rows.
-fn passes_row(y: u16, one: u16, other: u16) -> bool
-    ensures { result ≡ (ltb (min one other) y && ltb y (max one other)) }
-{
-    let low = lower(one as usize, other as usize);
-    let high = higher(one as usize, other as usize);
-    low < y as usize && (y as usize) < high
 }
 
 // What lies strictly between two points of a level or an upright run, where it is in the row.
-fn visit_between(alone: &mut [u32], pairs: &mut [u32], y: u16, strand: Strand, p: Spot, q: Spot)
-    requires ready { Ready alone.old pairs.old strand }
-    requires x_bound { p.x < 4096 }
-    requires x_bound_2 { q.x < 4096 }
-    ensures alone_after { alone.new ≡ visits_alone y (strand_in strand) alone.old (open_visits y (spot_in p) (spot_in q)) }
-    ensures pairs_after { pairs.new ≡ visits_pair y strand.line pairs.old (open_visits y (spot_in p) (spot_in q)) }
+fn visit_between(boards: &mut Boards, strand: Strand, p: Spot, q: Spot)
+    requires from_bound { p.x < 4096 }
+    requires to_bound { q.x < 4096 }
+    ensures { Visited (strand_in strand) boards.old (open_visits boards.old.row (spot_in p) (spot_in q)) boards.new }
 {
-    if p.y != q.y {
-        if passes_row(y, p.y, q.y) {
-            visit(alone, pairs, y, strand, p.x as usize, false, true);
+    if p.y == q.y {
+        if p.y == boards.row {
+            let from = p.x.min(q.x) as usize + 1;
+            visit_columns(boards, strand, from, p.x.max(q.x) as usize);
         }
-        return;
-    }
-    if p.y == y {
-        let from = lower(p.x as usize, q.x as usize) + 1;
-        visit_columns(
-            alone,
-            pairs,
-            y,
-            strand,
-            from,
-            higher(p.x as usize, q.x as usize),
-        );
+    } else if lies_between(boards.row, p.y, q.y) {
+        let visit = Visit {
+            column: p.x as usize,
+            level: false,
+            upright: true,
+        };
+        boards.visit(strand, visit);
     }
 }
 
-// The whole line in the row, from its first point over the corners in these words to its last.
-pub fn sweep_line(
-    alone: &mut [u32],
-    pairs: &mut [u32],
-    y: u16,
-    strand: Strand,
-    first: Spot,
-    corners: &[u32],
-    last: Spot,
-)
-    requires ready { Ready alone.old pairs.old strand }
-    requires x_bound { first.x < 4096 }
-    requires x_bound_2 { last.x < 4096 }
-    ensures alone_after { alone.new ≡ visits_alone y (strand_in strand) alone.old
-        (line_visits y (spot_in first) (map word_spot corners.now) (spot_in last)) }
-    ensures pairs_after { pairs.new ≡ visits_pair y strand.line pairs.old
-        (line_visits y (spot_in first) (map word_spot corners.now) (spot_in last)) }
+// The whole line in the row, from its first point over its corners to its last.
+pub fn sweep_line(boards: &mut Boards, strand: Strand, line: Line<'_>)
+    ensures { Visited (strand_in strand) boards.old (visits_along boards.old.row (trace_of line.entry)) boards.new }
 {
-    visit_point(alone, pairs, y, strand, first, false);
-    let mut p = first;
-    let mut k = 0;
-    while k < corners.len() {
-        let q = spot_in(corners[k]);
-        visit_between(alone, pairs, y, strand, p, q);
-        visit_point(alone, pairs, y, strand, q, true);
+    visit_point(boards, strand, line.first, false);
+    let mut p = line.first;
+    for &word in line.corners {
+        let q = spot_in(word);
+        visit_between(boards, strand, p, q);
+        visit_point(boards, strand, q, true);
         p = q;
-        k += 1;
     }
-    visit_between(alone, pairs, y, strand, p, last);
-    visit_point(alone, pairs, y, strand, last, false);
+    visit_between(boards, strand, p, line.last);
+    visit_point(boards, strand, line.last, false);
 }

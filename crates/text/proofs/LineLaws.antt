@@ -4,26 +4,16 @@ use mathlib.Core.Path.{◌≡◌, refl, sym, ◌∙◌, ap}
 use mathlib.Core.Bool.{Bool, true, false, cond}
 use mathlib.Core.List.{List, [], ◌∷◌, ◌++◌, append_assoc, append-nil}
 use native.Mathlib.Omega.{arith}
-use lib.ListN.{length, get_or, set, take, length-append}
-use lib.Seq.{length-take-le}
+use lib.ListN.{length, get_or, set, take, drop, length-append}
+use lib.Seq.{length-take-le, drop-drop, sets-eq}
 use lib.Dec.{ltb}
+use borrow.Rule.Slice.PartMut.{put_mid}
 use borrow.Author.Tests.{lt-ltb, le-ltb}
 use Rattle.lists.specs.Stores.{Stored}
 use Rattle.lists.proofs.Stores.{stored_none, stored_one, stored_append, stored_as, take_next}
-use Rattle.text.specs.Lines.{hex_digit, hex_half, hex_line, hex_lines, digits, decimal, refused_line}
+use Rattle.text.specs.Lines.{hex_half, hex_line, hex_lines, digits, decimal, refused_line}
 
 -- Hexadecimal digits
-
--- four stores in a row
-pub half_stored : (l : List ℕ) (at h a b c d : ℕ)
-    → a ≡ hex_digit (h / 4096) → b ≡ hex_digit (h / 256 % 16) → c ≡ hex_digit (h / 16 % 16) → d ≡ hex_digit (h % 16)
-    → Stored l at (hex_half h) (set (set (set (set l at a) (at + 1) b) (at + 2) c) (at + 3) d) (at + 4)
-unfolding hex_half
-half_stored l at h a b c d p q r s =
-    let e : at + 1 ≡ suc at = omega arith in
-    let f : at + 2 ≡ suc (suc at) = omega arith in
-    let g : at + 3 ≡ suc (suc (suc at)) = omega arith in
-    record { place = omega arith; row = rw (p, q, r, s, e, f, g) refl }
 
 pub length_hex_half : (h : ℕ) → length (hex_half h) ≡ 4
 unfolding hex_half
@@ -102,3 +92,16 @@ length_refused_line check place = omega (
   length_digits 20 check,
   length_digits 20 place,
 )
+
+-- a text that was copied to a part of the buffer
+pub stored_part : (out text : List ℕ) (at : ℕ) {part : List ℕ} → at + length text ≤ length out → part ≡ text
+    → Stored out at text (put_mid at (at + length text - at) out part) (at + length text)
+stored_part out text at h e = record {
+  place = refl;
+  row =
+      ap (put_mid at (at + length text - at) out) e
+      ∙ ap (λ (k : ℕ). take at out ++ (text ++ drop k (drop at out))) (omega arith)
+      ∙ ap (λ (l : List ℕ). take at out ++ (text ++ l)) (drop-drop (length text) at out)
+      ∙ sym (append_assoc (take at out) text (drop (at + length text) out))
+      ∙ sym (sets-eq text out at h);
+}

@@ -1,4 +1,5 @@
-// Text stored into a buffer from a place on. Each function answers the place behind what it stored.
+// Text stored into a buffer from a place on. Each function answers the place behind what it stored: the promise `Stored` is about a buffer,
+// a place and the place behind, so these stand beside the buffer.
 ghost use Rattle.std.specs.Prelude.{◌≡◌, ◌+◌, ◌*◌, ◌≤◌, ◌<◌, length};
 ghost use Rattle.lists.specs.Stores.{Stored};
 ghost use Rattle.text.specs.Lines.{hex_digit, hex_half, hex_line, hex_lines, digits, decimal, refused_line};
@@ -8,12 +9,9 @@ pub fn put_text(out: &mut [u8], at: usize, text: &[u8]) -> usize
     requires { at + length text.now ≤ length out.old }
     ensures { Stored out.old at text.now out.new result }
 {
-    let mut i = 0;
-    while i < text.len() {
-        out[at + i] = text[i];
-        i += 1;
-    }
-    at + i
+    let end = at + text.len();
+    out[at..end].copy_from_slice(text);
+    end
 }
 
 fn hex_digit(n: u32) -> u8
@@ -31,11 +29,13 @@ fn put_hex_half(out: &mut [u8], at: usize, half: u32) -> usize
     requires { (at + 4 ≤ length out.old) × (half < 65536) }
     ensures { Stored out.old at (hex_half half) out.new result }
 {
-    out[at] = hex_digit(half / 4096);
-    out[at + 1] = hex_digit(half / 256 % 16);
-    out[at + 2] = hex_digit(half / 16 % 16);
-    out[at + 3] = hex_digit(half % 16);
-    at + 4
+    let digits = [
+        hex_digit(half / 4096),
+        hex_digit(half / 256 % 16),
+        hex_digit(half / 16 % 16),
+        hex_digit(half % 16),
+    ];
+    put_text(out, at, &digits)
 }
 
 // A word in eight hexadecimal digits, and the line's end.
@@ -55,15 +55,13 @@ pub fn put_hex_lines(out: &mut [u8], at: usize, words: &[u32]) -> usize
     ensures { Stored out.old at (hex_lines words.now) out.new result }
 {
     let mut next = at;
-    let mut i = 0;
-    while i < words.len() {
-        next = put_hex_line(out, next, words[i]);
-        i += 1;
+    for &word in words {
+        next = put_hex_line(out, next, word);
     }
     next
 }
 
-// The decimal digits of a number of at most k digits.
+// The decimal digits of a number of at most k digits, one by one as `digits` defines them.
 fn put_digits(out: &mut [u8], at: usize, x: usize, k: usize) -> usize
     requires { at + k ≤ length out.old }
     ensures { Stored out.old at (digits k x) out.new result }
@@ -80,7 +78,7 @@ fn put_digits(out: &mut [u8], at: usize, x: usize, k: usize) -> usize
     last + 1
 }
 
-// A number in decimal.
+// A number in decimal, into a row of bytes: `decimal` says each of them, which `write!` would leave open.
 pub fn put_number(out: &mut [u8], at: usize, x: usize) -> usize
     requires { at + 20 ≤ length out.old }
     ensures { Stored out.old at (decimal x) out.new result }

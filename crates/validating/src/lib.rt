@@ -4,27 +4,17 @@
 
 ghost use Rattle.validation.specs.Outcome.{Validates};
 
-use checks::Verdict;
-use lists::Found;
+use checks::{Fault, Refusal};
 use ranking::check_and_rank;
 use reader::check_layout;
 use sweeping::check_lines;
 
 // 'accepted exactly if its words follow the layout, no point exceeds its head, and every cable joins its own parts', as our sheets have it;
 // or why the list or the sheet is sent back.
-pub fn check_sheet(list: &[u32], sheet: &[u32]) -> Verdict
+pub fn check_sheet(list: &[u32], sheet: &[u32]) -> Result<(), Refusal>
     ensures { Validates list.now sheet.now result }
 {
-    let checked = check_and_rank(list);
-    let verdict = checked.verdict;
-    if let Verdict::Refused { check, place } = verdict {
-        return Verdict::Refused { check, place };
-    }
-    if let Found::At(place) = check_layout(list, sheet) {
-        return Verdict::Refused { check: 19, place };
-    }
-    if let Found::At(place) = check_lines(list, sheet) {
-        return Verdict::Refused { check: 20, place };
-    }
-    Verdict::Passed
+    check_and_rank(list)?;
+    Fault::OutOfLayout.refuse(check_layout(list, sheet))?;
+    Fault::BrokenRule.refuse(check_lines(list, sheet))
 }

@@ -1,5 +1,7 @@
 -- A sheet of a list that passes its checks is accepted exactly if checks 19 and 20 find nothing; the answer for every list and sheet.
 -- Assumes nothing.
+use Rattle.checks.specs.declared.Fault.{Fault}
+use Rattle.std.specs.Prelude.{Some, None}
 use Prim.Native.Nat.{ℕ, ◌<◌}
 use native.Mathlib.Omega.{arith}
 use native.Mathlib.Decide.{ℕ_discrete}
@@ -11,16 +13,14 @@ use mathlib.Core.List.{List, [], ◌∷◌, map}
 use lib.ListN.{length, get_or, length-map}
 use lib.Dec.{eqb}
 use borrow.Author.Tests.{eqb-true, eq-eqb, not-true, not-false}
-use Rattle.lists.specs.declared.Found.TheVariants.{At, Nothing}
 use Rattle.lists.specs.Search.{seek}
 use Rattle.lists.specs.Select.{any, range, tabulate}
 use Rattle.lists.proofs.Any.{any_range_e, any_range_i}
 use Rattle.lists.proofs.Bools.{and_fails, or_e, or_right, not_e, not_i}
 use Rattle.lists.proofs.Select.{length_tabulate, get_d_tabulate}
 use Rattle.lists.proofs.Seek.{seek_nothing, seek_none}
-use Rattle.checks.specs.declared.Verdict.{Verdict}
-use Rattle.checks.specs.declared.Verdict.TheVariants.{Passed, Refused}
-use Rattle.checks.specs.Checks.{Check, Clear, first_refusal, or_else}
+use Rattle.checks.specs.declared.Fault.TheVariants as faults
+use Rattle.checks.specs.Checks.{Check, Clear, first_refusal, or_else, Verdict, passed, refused}
 use Rattle.checks.proofs.FirstRefusal.{rest_decides, refused_before, clear_each, clear_prefix, clear_rest}
 use Rattle.station.specs.Station.{Station, Cable, no_cable, station_of}
 use Rattle.station.specs.Code.{Wired}
@@ -231,11 +231,11 @@ module _ (st : Station) (sheet : List ℕ) where
   -- Check 20
 
   -- where it finds nothing, no cable is wrong by itself, and no two of them meet wrongly
-  pub rules_alone : check20 st sheet ≡ Nothing → (i : ℕ) → i < m → wrong_alone st d i ≡ false
+  pub rules_alone : check20 st sheet ≡ None → (i : ℕ) → i < m → wrong_alone st d i ≡ false
   unfolding check20
   rules_alone h i l = seek_nothing (wrong_alone st d) 0 m (or_found_e (seek (wrong_alone st d) 0 m) _ h).0 i (omega arith) (omega arith)
 
-  pub rules_pairs : check20 st sheet ≡ Nothing → (i j : ℕ) → i < m → j < m → wrong_pair st d i j ≡ false
+  pub rules_pairs : check20 st sheet ≡ None → (i j : ℕ) → i < m → j < m → wrong_pair st d i j ≡ false
   unfolding check20
   rules_pairs h i j l k =
       not-true (wrong_pair st d i j)
@@ -247,7 +247,7 @@ module _ (st : Station) (sheet : List ℕ) where
 
   -- and where neither is, it finds nothing
   pub rules_found :
-      ((i : ℕ) → i < m → wrong_alone st d i ≡ false) → ((i j : ℕ) → i < m → j < m → wrong_pair st d i j ≡ false) → check20 st sheet ≡ Nothing
+      ((i : ℕ) → i < m → wrong_alone st d i ≡ false) → ((i j : ℕ) → i < m → j < m → wrong_pair st d i j ≡ false) → check20 st sheet ≡ None
   unfolding check20
   rules_found a t =
       or_found_i (seek (wrong_alone st d) 0 m) _ (seek_none (wrong_alone st d) 0 m λ i f g. a i (omega arith))
@@ -321,7 +321,7 @@ module _ (list sheet : List ℕ) (pass : Clear all_checks list) where
   joins false p i (inr e) = inl e
 
   -- where check 20 finds nothing wrong in a sheet that follows the layout, it is accepted
-  pub accepts : Follows parts lines sheet → check20 st sheet ≡ Nothing → Accepted list sheet
+  pub accepts : Follows parts lines sheet → check20 st sheet ≡ None → Accepted list sheet
   accepts F h = record {
     layout = F;
     ends = ends;
@@ -369,7 +369,7 @@ module _ (list sheet : List ℕ) (pass : Clear all_checks list) where
           apart
 
   -- and in an accepted sheet both checks find nothing
-  pub accepted : Accepted list sheet → (check19 parts lines sheet ≡ Nothing) × (check20 st sheet ≡ Nothing)
+  pub accepted : Accepted list sheet → (check19 parts lines sheet ≡ None) × (check20 st sheet ≡ None)
   accepted A = (layout_i parts lines sheet A.layout, rules_found st sheet not_alone pairs)
     where
       drawn : Drawing
@@ -419,12 +419,12 @@ module _ (list sheet : List ℕ) where
   -- the checks of the sheet
   abbrev last_checks : List Check
   last_checks =
-      record { number = 19; finds = λ l. check19 (station_of l).parts (length (station_of l).cables) sheet }
-      ∷ record { number = 20; finds = λ l. check20 (station_of l) sheet }
+      record { fault = faults.OutOfLayout; finds = λ l. check19 (station_of l).parts (length (station_of l).cables) sheet }
+      ∷ record { fault = faults.BrokenRule; finds = λ l. check20 (station_of l) sheet }
       ∷ []
 
   -- a refusal of the list is the answer
-  pub list_refuses : (check place : ℕ) → first_refusal all_checks list ≡ Refused check place → sheet_verdict list sheet ≡ Refused check place
+  pub list_refuses : (check : Fault) (place : ℕ) → first_refusal all_checks list ≡ refused check place → sheet_verdict list sheet ≡ refused check place
   unfolding sheet_verdict sheet_checks
   list_refuses check place h = refused_before list all_checks last_checks check place h
 
@@ -432,31 +432,31 @@ module _ (list sheet : List ℕ) where
   module _ (pass : Clear all_checks list) where
     pub sheet_decides :
         sheet_verdict list sheet
-        ≡ or_else 19 (check19 (station_of list).parts (length (station_of list).cables) sheet)
-        (or_else 20 (check20 (station_of list) sheet) Passed)
+        ≡ or_else faults.OutOfLayout (check19 (station_of list).parts (length (station_of list).cables) sheet)
+        (or_else faults.BrokenRule (check20 (station_of list) sheet) passed)
     unfolding sheet_verdict sheet_checks first_refusal
     sheet_decides = rest_decides list all_checks last_checks pass
 
     pub layout_refuses :
-        (place : ℕ) → check19 (station_of list).parts (length (station_of list).cables) sheet ≡ At place
-        → sheet_verdict list sheet ≡ Refused 19 place
+        (place : ℕ) → check19 (station_of list).parts (length (station_of list).cables) sheet ≡ Some place
+        → sheet_verdict list sheet ≡ refused faults.OutOfLayout place
     unfolding or_else
     layout_refuses place h = sheet_decides ∙ rw h
 
-    module _ (follows : check19 (station_of list).parts (length (station_of list).cables) sheet ≡ Nothing) where
-      pub rules_refuse : (place : ℕ) → check20 (station_of list) sheet ≡ At place → sheet_verdict list sheet ≡ Refused 20 place
+    module _ (follows : check19 (station_of list).parts (length (station_of list).cables) sheet ≡ None) where
+      pub rules_refuse : (place : ℕ) → check20 (station_of list) sheet ≡ Some place → sheet_verdict list sheet ≡ refused faults.BrokenRule place
       unfolding or_else
       rules_refuse place h = sheet_decides ∙ rw (follows, h)
 
-      pub rules_pass : check20 (station_of list) sheet ≡ Nothing → sheet_verdict list sheet ≡ Passed
+      pub rules_pass : check20 (station_of list) sheet ≡ None → sheet_verdict list sheet ≡ passed
       unfolding or_else
       rules_pass h = sheet_decides ∙ rw (follows, h)
 
   -- a pass is a pass of each
   pub passed_all :
-      sheet_verdict list sheet ≡ Passed
-      → Clear all_checks list × (check19 (station_of list).parts (length (station_of list).cables) sheet ≡ Nothing)
-      × (check20 (station_of list) sheet ≡ Nothing)
+      sheet_verdict list sheet ≡ passed
+      → Clear all_checks list × (check19 (station_of list).parts (length (station_of list).cables) sheet ≡ None)
+      × (check20 (station_of list) sheet ≡ None)
   unfolding sheet_verdict sheet_checks
   passed_all h =
       let t = clear_rest list all_checks last_checks h in (

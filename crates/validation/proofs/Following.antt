@@ -1,5 +1,6 @@
 -- Check 19 finds nothing exactly in the sheets that follow the layout; what is read off such a sheet, word by word, and that it fits the
 -- head. Assumes nothing.
+use Rattle.std.specs.Prelude.{Option, Some, None}
 use Prim.Native.Nat.{ℕ, zero, suc, ◌+◌, ◌-◌, ◌<◌, ◌≤◌}
 use native.Mathlib.Omega.{arith}
 use native.Mathlib.Numerals.{add-one}
@@ -11,8 +12,6 @@ use lib.ListN.{length, get_or, take, drop, length-append, length-take, length-dr
 use lib.Seq.{get_or-take, get_or-drop, drop-drop, get_or-append-add}
 use lib.Dec.{eqb, leb}
 use borrow.Author.Tests.{leb-true, leb-false, lt-leb, not-false}
-use Rattle.lists.specs.declared.Found.{Found}
-use Rattle.lists.specs.declared.Found.TheVariants.{At, Nothing}
 use Rattle.lists.proofs.Bools.{and_e, or_fails}
 use Rattle.lists.proofs.Seek.{seek_nothing, seek_none}
 use Rattle.words.specs.Words.{kind_of, spare_of, first_of, second_of, part, corner}
@@ -25,21 +24,21 @@ use Rattle.validation.specs.Judging.{Fits}
 
 -- Finding nothing
 
-at_not_nothing : {place : ℕ} → At place ≡ Nothing → ⊥
+at_not_nothing : {place : ℕ} → Some place ≡ None → ⊥
 at_not_nothing e = let z : ◌≡◌ {A = ℕ} 0 1 = cc in omega arith
 
-pub or_found_e : (f g : Found) → or_found f g ≡ Nothing → (f ≡ Nothing) × (g ≡ Nothing)
-or_found_e (At p) g h = absurd (at_not_nothing h)
-or_found_e Nothing g h = (refl, h)
+pub or_found_e : (f g : Option ℕ) → or_found f g ≡ None → (f ≡ None) × (g ≡ None)
+or_found_e (Some p) g h = absurd (at_not_nothing h)
+or_found_e None g h = (refl, h)
 
-pub or_found_i : (f g : Found) → f ≡ Nothing → g ≡ Nothing → or_found f g ≡ Nothing
+pub or_found_i : (f g : Option ℕ) → f ≡ None → g ≡ None → or_found f g ≡ None
 or_found_i f g e h = rw e h
 
-cond_e : (b : Bool) (place : ℕ) (f : Found) → cond b (At place) f ≡ Nothing → (b ≡ false) × (f ≡ Nothing)
+cond_e : (b : Bool) (place : ℕ) (f : Option ℕ) → cond b (Some place) f ≡ None → (b ≡ false) × (f ≡ None)
 cond_e true place f h = absurd (at_not_nothing h)
 cond_e false place f h = (refl, h)
 
-cond_i : (b : Bool) (place : ℕ) (f : Found) → b ≡ false → f ≡ Nothing → cond b (At place) f ≡ Nothing
+cond_i : (b : Bool) (place : ℕ) (f : Option ℕ) → b ≡ false → f ≡ None → cond b (Some place) f ≡ None
 cond_i b place f e h = rw e h
 
 -- Words in their places
@@ -57,7 +56,7 @@ module _ (fits : ℕ → Bool) (sheet : List ℕ) where
 
 module _ (kind head : ℕ) (sheet : List ℕ) (at k : ℕ) where
   pub points_e :
-      points_fault kind head sheet at k ≡ Nothing → (j : ℕ) → j < k
+      points_fault kind head sheet at k ≡ None → (j : ℕ) → j < k
       → (at + j < length sheet) × (is_point kind head (get_or sheet (at + j) 0) ≡ true)
   unfolding points_fault
   points_e h j l =
@@ -66,7 +65,7 @@ module _ (kind head : ℕ) (sheet : List ℕ) (at k : ℕ) where
 
   pub points_i :
       at + k ≤ length sheet → ((j : ℕ) → j < k → is_point kind head (get_or sheet (at + j) 0) ≡ true)
-      → points_fault kind head sheet at k ≡ Nothing
+      → points_fault kind head sheet at k ≡ None
   unfolding points_fault
   points_i l f =
       seek_none (misplaced (is_point kind head) sheet) at k λ j a b.
@@ -109,7 +108,7 @@ module _ (n : ℕ) (sheet : List ℕ) where
 
   stands_e :
       (i : ℕ) → misplaced (is_cable_at i) sheet (cable_place n sheet i) ≡ false
-      → points_fault corner (get_or sheet 0 0) sheet (cable_place n sheet i + 1) (counted n sheet i) ≡ Nothing
+      → points_fault corner (get_or sheet 0 0) sheet (cable_place n sheet i + 1) (counted n sheet i) ≡ None
       → (cable_place n sheet (suc i) ≤ length sheet) × Stands i
   stands_e i h f = (
     inside (counted n sheet i) refl,
@@ -139,7 +138,7 @@ module _ (n : ℕ) (sheet : List ℕ) where
   stands_i :
       (i : ℕ) → cable_place n sheet (suc i) ≤ length sheet → Stands i
       → (misplaced (is_cable_at i) sheet (cable_place n sheet i) ≡ false)
-      × (points_fault corner (get_or sheet 0 0) sheet (cable_place n sheet i + 1) (counted n sheet i) ≡ Nothing)
+      × (points_fault corner (get_or sheet 0 0) sheet (cable_place n sheet i + 1) (counted n sheet i) ≡ None)
   stands_i i l S =
       let e = place_next n sheet i in (
         misplaced_i (is_cable_at i) sheet (cable_place n sheet i) (omega arith) S.word,
@@ -150,7 +149,7 @@ module _ (n : ℕ) (sheet : List ℕ) where
 
   -- those of r cables from line i on
   cables_e :
-      (r i : ℕ) → cables_fault (get_or sheet 0 0) sheet i r (cable_place n sheet i) ≡ Nothing → cable_place n sheet i ≤ length sheet
+      (r i : ℕ) → cables_fault (get_or sheet 0 0) sheet i r (cable_place n sheet i) ≡ None → cable_place n sheet i ≤ length sheet
       → (cable_place n sheet (i + r) ≤ length sheet) × ((j : ℕ) → i ≤ j → j < i + r → Stands j)
   unfolding cables_fault cable_place
   cables_e zero i h l = (let e : i + 0 ≡ i = omega arith in rw e l, λ j a b. absurd (omega arith))
@@ -168,7 +167,7 @@ module _ (n : ℕ) (sheet : List ℕ) where
 
   cables_i :
       (r i : ℕ) → cable_place n sheet (i + r) ≤ length sheet → ((j : ℕ) → i ≤ j → j < i + r → Stands j)
-      → cables_fault (get_or sheet 0 0) sheet i r (cable_place n sheet i) ≡ Nothing
+      → cables_fault (get_or sheet 0 0) sheet i r (cable_place n sheet i) ≡ None
   unfolding cables_fault cable_place
   cables_i zero i l S = refl
   cables_i (suc r) i l S =
@@ -181,7 +180,7 @@ module _ (n : ℕ) (sheet : List ℕ) where
 -- Check 19
 
 module _ (n m : ℕ) (sheet : List ℕ) where
-  pub layout_e : check19 n m sheet ≡ Nothing → Follows n m sheet
+  pub layout_e : check19 n m sheet ≡ None → Follows n m sheet
   unfolding check19
   layout_e h =
       let c = cond_e (misplaced is_head sheet 0) 0 _ h in
@@ -209,7 +208,7 @@ module _ (n m : ℕ) (sheet : List ℕ) where
   pub words_enough : Follows n m sheet → 1 + n ≤ length sheet
   words_enough F = omega (arith, F.complete, place_rises n sheet 0 m (omega arith), place_first n sheet)
 
-  pub layout_i : Follows n m sheet → check19 n m sheet ≡ Nothing
+  pub layout_i : Follows n m sheet → check19 n m sheet ≡ None
   unfolding check19
   layout_i F =
       let l = words_enough F in

@@ -1,8 +1,9 @@
 -- Request 2026-09 on worked sheets. The request names no example: these are ours, worked out by hand. Assumes nothing.
+use Rattle.checks.specs.Checks.{passed, refused}
+use Rattle.checks.specs.declared.Fault.TheVariants as faults
 use Prim.Native.Nat.{ℕ}
 use mathlib.Core.Path.{◌≡◌, refl}
 use mathlib.Core.List.{List, [], ◌∷◌, ◌++◌}
-use Rattle.checks.specs.declared.Verdict.TheVariants.{Passed, Refused}
 use Rattle.validation.specs.Outcome.{sheet_verdict}
 use Rattle.validation.proofs.Computing.{validation_computing}
 
@@ -25,60 +26,60 @@ record Table : Type 0 where
   own :
       sheet_verdict triangle
       (near ++ (0x60000000 ∷ 0x60001000 ∷ 0x60002002 ∷ 0x70001000 ∷ 0x70001002 ∷ 0x80000001 ∷ 0x80001001 ∷ 0x80002004 ∷ 0xa0000006 ∷ []))
-      ≡ Passed
-  nine : sheet_verdict triangle (near ++ (0x60000000 ∷ 0x60001000 ∷ 0x60002002 ∷ 0x70001000 ∷ 0x70001002 ∷ [])) ≡ Passed
-  behind : sheet_verdict triangle (near ++ (0x60000000 ∷ 0x60001000 ∷ 0x60002002 ∷ 0x70001000 ∷ 0x70001002 ∷ 0xffffffff ∷ [])) ≡ Passed
+      ≡ passed
+  nine : sheet_verdict triangle (near ++ (0x60000000 ∷ 0x60001000 ∷ 0x60002002 ∷ 0x70001000 ∷ 0x70001002 ∷ [])) ≡ passed
+  behind : sheet_verdict triangle (near ++ (0x60000000 ∷ 0x60001000 ∷ 0x60002002 ∷ 0x70001000 ∷ 0x70001002 ∷ 0xffffffff ∷ [])) ≡ passed
   -- a word too few, two, and none at all
-  eight : sheet_verdict triangle (near ++ (0x60000000 ∷ 0x60001000 ∷ 0x60002002 ∷ 0x70001000 ∷ [])) ≡ Refused 19 8
-  three : sheet_verdict triangle (0x40001002 ∷ 0x50000000 ∷ 0x50000001 ∷ []) ≡ Refused 19 3
-  none : sheet_verdict triangle [] ≡ Refused 19 0
+  eight : sheet_verdict triangle (near ++ (0x60000000 ∷ 0x60001000 ∷ 0x60002002 ∷ 0x70001000 ∷ [])) ≡ refused faults.OutOfLayout 8
+  three : sheet_verdict triangle (0x40001002 ∷ 0x50000000 ∷ 0x50000001 ∷ []) ≡ refused faults.OutOfLayout 3
+  none : sheet_verdict triangle [] ≡ refused faults.OutOfLayout 0
   -- a head of height 1: the first point above it is part 2
-  low : sheet_verdict triangle (0x40001001 ∷ 0x50000000 ∷ 0x50000001 ∷ 0x50000002 ∷ []) ≡ Refused 19 3
+  low : sheet_verdict triangle (0x40001001 ∷ 0x50000000 ∷ 0x50000001 ∷ 0x50000002 ∷ []) ≡ refused faults.OutOfLayout 3
   -- a corner beyond the width by one
-  beyond : sheet_verdict triangle (near ++ (0x60000000 ∷ 0x60001000 ∷ 0x60002002 ∷ 0x70002000 ∷ 0x70002002 ∷ [])) ≡ Refused 19 7
+  beyond : sheet_verdict triangle (near ++ (0x60000000 ∷ 0x60001000 ∷ 0x60002002 ∷ 0x70002000 ∷ 0x70002002 ∷ [])) ≡ refused faults.OutOfLayout 7
   -- a spare bit of the head, of a part and of a corner; another kind
-  head_spare : sheet_verdict triangle (0x41001002 ∷ []) ≡ Refused 19 0
-  part_spare : sheet_verdict triangle (0x40001002 ∷ 0x50000000 ∷ 0x58000001 ∷ 0x50000002 ∷ []) ≡ Refused 19 2
-  corner_spare : sheet_verdict triangle (near ++ (0x60000000 ∷ 0x60001000 ∷ 0x60002002 ∷ 0x70001000 ∷ 0x71001002 ∷ [])) ≡ Refused 19 8
-  kind : sheet_verdict triangle (near ++ (0x60000000 ∷ 0x60001000 ∷ 0x60002002 ∷ 0x50001000 ∷ 0x70001002 ∷ [])) ≡ Refused 19 7
+  head_spare : sheet_verdict triangle (0x41001002 ∷ []) ≡ refused faults.OutOfLayout 0
+  part_spare : sheet_verdict triangle (0x40001002 ∷ 0x50000000 ∷ 0x58000001 ∷ 0x50000002 ∷ []) ≡ refused faults.OutOfLayout 2
+  corner_spare : sheet_verdict triangle (near ++ (0x60000000 ∷ 0x60001000 ∷ 0x60002002 ∷ 0x70001000 ∷ 0x71001002 ∷ [])) ≡ refused faults.OutOfLayout 8
+  kind : sheet_verdict triangle (near ++ (0x60000000 ∷ 0x60001000 ∷ 0x60002002 ∷ 0x50001000 ∷ 0x70001002 ∷ [])) ≡ refused faults.OutOfLayout 7
   -- line 1 at line 0
-  line : sheet_verdict triangle (near ++ (0x60001000 ∷ 0x60001000 ∷ 0x60002002 ∷ 0x70001000 ∷ 0x70001002 ∷ [])) ≡ Refused 19 4
+  line : sheet_verdict triangle (near ++ (0x60001000 ∷ 0x60001000 ∷ 0x60002002 ∷ 0x70001000 ∷ 0x70001002 ∷ [])) ≡ refused faults.OutOfLayout 4
   -- corners from the other end
-  back : sheet_verdict triangle (near ++ (0x60000000 ∷ 0x60001000 ∷ 0x60002002 ∷ 0x70001002 ∷ 0x70001000 ∷ [])) ≡ Passed
+  back : sheet_verdict triangle (near ++ (0x60000000 ∷ 0x60001000 ∷ 0x60002002 ∷ 0x70001002 ∷ 0x70001000 ∷ [])) ≡ passed
   -- four corners that alternate both ways; read forward, line 0 touches nothing, read backward it runs over itself
   forward :
       sheet_verdict triangle
       (0x40003004 ∷ 0x50000000 ∷ 0x50000003 ∷ 0x50002003 ∷ 0x60000004 ∷ 0x70000001 ∷ 0x70001001 ∷ 0x70001002 ∷ 0x70000002
       ∷ 0x60001000 ∷ 0x60002001 ∷ 0x70002000 ∷ [])
-      ≡ Passed
+      ≡ passed
   backward :
       sheet_verdict triangle
       (0x40003004 ∷ 0x50000000 ∷ 0x50000003 ∷ 0x50002003 ∷ 0x60000004 ∷ 0x70000002 ∷ 0x70001002 ∷ 0x70001001 ∷ 0x70000001
       ∷ 0x60001000 ∷ 0x60002001 ∷ 0x70002000 ∷ [])
-      ≡ Passed
+      ≡ passed
   -- a corner of cable 1 on part 0
   corner_on_part :
-      sheet_verdict triangle (near ++ (0x60000000 ∷ 0x60001001 ∷ 0x70000000 ∷ 0x60002002 ∷ 0x70001000 ∷ 0x70001002 ∷ [])) ≡ Refused 20 1
+      sheet_verdict triangle (near ++ (0x60000000 ∷ 0x60001001 ∷ 0x70000000 ∷ 0x60002002 ∷ 0x70001000 ∷ 0x70001002 ∷ [])) ≡ refused faults.BrokenRule 1
   -- cable 2 straight from part 0 to part 2, over cables 0 and 1: it touches part 1, whatever the pairs are
-  over_both : sheet_verdict triangle (near ++ (0x60000000 ∷ 0x60001000 ∷ 0x60002000 ∷ [])) ≡ Refused 20 2
+  over_both : sheet_verdict triangle (near ++ (0x60000000 ∷ 0x60001000 ∷ 0x60002000 ∷ [])) ≡ refused faults.BrokenRule 2
   -- cable 2 leaves part 0 over cable 0 and turns away before part 1: no cable is wrong by itself, and of the pair the lower is named
   overlaid :
-      sheet_verdict triangle (far ++ (0x60000000 ∷ 0x60001000 ∷ 0x60002003 ∷ 0x70000001 ∷ 0x70001001 ∷ 0x70001004 ∷ [])) ≡ Refused 20 0
+      sheet_verdict triangle (far ++ (0x60000000 ∷ 0x60001000 ∷ 0x60002003 ∷ 0x70000001 ∷ 0x70001001 ∷ 0x70001004 ∷ [])) ≡ refused faults.BrokenRule 0
   -- the same over cable 1, at the other end
   overlaid_above :
-      sheet_verdict triangle (far ++ (0x60000000 ∷ 0x60001000 ∷ 0x60002003 ∷ 0x70001000 ∷ 0x70001003 ∷ 0x70000003 ∷ [])) ≡ Refused 20 1
+      sheet_verdict triangle (far ++ (0x60000000 ∷ 0x60001000 ∷ 0x60002003 ∷ 0x70001000 ∷ 0x70001003 ∷ 0x70000003 ∷ [])) ≡ refused faults.BrokenRule 1
   -- two cables between parts one step apart share their parts' spots alone; two steps apart the spot between them too
   one_step :
       sheet_verdict doubled
       (0x40001002 ∷ 0x50000000 ∷ 0x50000001 ∷ 0x50000002 ∷ 0x60000000 ∷ 0x60001000 ∷ 0x60002000 ∷ 0x60003002 ∷ 0x70001000 ∷ 0x70001002 ∷ [])
-      ≡ Passed
+      ≡ passed
   two_steps :
       sheet_verdict doubled
       (0x40001003 ∷ 0x50000000 ∷ 0x50000002 ∷ 0x50000003 ∷ 0x60000000 ∷ 0x60001000 ∷ 0x60002000 ∷ 0x60003002 ∷ 0x70001000 ∷ 0x70001003 ∷ [])
-      ≡ Refused 20 0
+      ≡ refused faults.BrokenRule 0
   -- a wrong word behind a wrong line comes first; and the list before the sheet
-  layout_first : sheet_verdict triangle (near ++ (0x60000000 ∷ 0x60001001 ∷ 0x70000000 ∷ 0x60003000 ∷ [])) ≡ Refused 19 7
-  list_first : sheet_verdict (0x10030002 ∷ 0x20000001 ∷ 0x30000001 ∷ 0x30001002 ∷ []) [] ≡ Refused 10 1
+  layout_first : sheet_verdict triangle (near ++ (0x60000000 ∷ 0x60001001 ∷ 0x70000000 ∷ 0x60003000 ∷ [])) ≡ refused faults.OutOfLayout 7
+  list_first : sheet_verdict (0x10030002 ∷ 0x20000001 ∷ 0x30000001 ∷ 0x30001002 ∷ []) [] ≡ refused faults.SeparatingPart 1
 
 table : Table
 unfolding validation_computing triangle doubled near far

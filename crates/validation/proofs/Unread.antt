@@ -1,5 +1,6 @@
 -- 'reading stops behind the last cable's word and the corners that it counts': what stands behind a sheet that follows the layout changes no
 -- answer. Assumes nothing.
+use Rattle.std.specs.Prelude.{Option, Ok, Err}
 use Prim.Native.Nat.{ℕ, zero, suc, ◌+◌, ◌<◌, ◌≤◌}
 use native.Mathlib.Omega.{arith}
 use mathlib.Core.Path.{◌≡◌, refl, sym, ap, ap₂, ◌∙◌}
@@ -7,10 +8,8 @@ use mathlib.Core.Bool.{true}
 use mathlib.Core.List.{List, [], ◌∷◌, ◌++◌, map}
 use lib.ListN.{length, get_or, take, drop, length-append, length-take, length-drop, length-map, take-append-drop, get_or-append}
 use lib.Seq.{get_or-take, get_or-drop, drop-drop, take-append-le, drop-append-le}
-use Rattle.lists.specs.declared.Found.{Found}
-use Rattle.checks.specs.declared.Verdict.{Verdict}
-use Rattle.checks.specs.declared.Verdict.TheVariants.{Passed, Refused}
-use Rattle.checks.specs.Checks.{first_refusal, or_else}
+use Rattle.checks.specs.declared.Fault.TheVariants as faults
+use Rattle.checks.specs.Checks.{first_refusal, or_else, Verdict, passed}
 use Rattle.station.specs.Station.{Station, station_of}
 use Rattle.order.specs.Checks.{all_checks}
 use Rattle.words.specs.Words.{second_of}
@@ -140,12 +139,12 @@ pub rest_unread :
 rest_unread list sheet rest F = go (first_refusal all_checks list) refl
   where
     go : (v : Verdict) → first_refusal all_checks list ≡ v → sheet_verdict list (sheet ++ rest) ≡ sheet_verdict list sheet
-    go Passed h =
+    go (Ok u) h =
         sheet_decides list (sheet ++ rest) h
-        ∙ ap₂ (λ (f g : Found). or_else 19 f (or_else 20 g Passed)) (layout_unread (station_of list) sheet rest F)
+        ∙ ap₂ (λ (f g : Option ℕ). or_else faults.OutOfLayout f (or_else faults.BrokenRule g passed)) (layout_unread (station_of list) sheet rest F)
         (rules_unread (station_of list) sheet rest F)
         ∙ sym (sheet_decides list sheet h)
-    go (Refused check place) h = list_refuses list (sheet ++ rest) check place h ∙ sym (list_refuses list sheet check place h)
+    go (Err r) h = list_refuses list (sheet ++ rest) r.fault r.place h ∙ sym (list_refuses list sheet r.fault r.place h)
 
 -- and of the sheet cut off behind the last cable's corners
 pub cut_unread :

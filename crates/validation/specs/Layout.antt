@@ -1,8 +1,6 @@
 -- Request 2026-09, 19: 'a word out of the layout, missing, or a point beyond the head'. The words of a sheet of n parts and m cables, by
 -- position. Assumes nothing.
-use Rattle.std.specs.Prelude.{ℕ, zero, suc, ◌+◌, ◌<◌, ◌≤◌, ◌≡◌, Bool, true, cond, not, ◌&&◌, ◌||◌, List, length, get_or, eqb, leb}
-use Rattle.lists.specs.declared.Found.{Found}
-use Rattle.lists.specs.declared.Found.TheVariants.{At, Nothing}
+use Rattle.std.specs.Prelude.{ℕ, zero, suc, ◌+◌, ◌<◌, ◌≤◌, ◌≡◌, Bool, true, cond, not, ◌&&◌, ◌||◌, List, length, get_or, eqb, leb, Option, Some, None}
 use Rattle.lists.specs.Search.{seek}
 use Rattle.words.specs.Words.{kind_of, spare_of, first_of, second_of, line_of, sheet_head, part, sheet_cable, corner}
 
@@ -24,28 +22,28 @@ unfoldable pub misplaced : (ℕ → Bool) → List ℕ → ℕ → Bool
 misplaced fits sheet at = leb (length sheet) at || not (fits (get_or sheet at 0))
 
 -- what is found first
-abbrev pub or_found : Found → Found → Found
-or_found (At place) later = At place
-or_found Nothing later = later
+abbrev pub or_found : Option ℕ → Option ℕ → Option ℕ
+or_found (Some place) later = Some place
+or_found None later = later
 
 -- the first of k words from a place on that is no such point
-unfoldable pub points_fault : ℕ → ℕ → List ℕ → ℕ → ℕ → Found
+unfoldable pub points_fault : ℕ → ℕ → List ℕ → ℕ → ℕ → Option ℕ
 points_fault kind head sheet at k = seek (misplaced (is_point kind head) sheet) at k
 
 -- the first from a place on that is out of place among the words of m cables, the first of them at this line, each with the corners that it
 -- counts; 'reading stops behind the last cable's word and the corners that it counts'
-unfoldable pub cables_fault : ℕ → List ℕ → ℕ → ℕ → ℕ → Found
-cables_fault head sheet line zero at = Nothing
+unfoldable pub cables_fault : ℕ → List ℕ → ℕ → ℕ → ℕ → Option ℕ
+cables_fault head sheet line zero at = None
 cables_fault head sheet line (suc m) at =
     let k = second_of (get_or sheet at 0) in
-    cond (misplaced (is_cable_at line) sheet at) (At at)
+    cond (misplaced (is_cable_at line) sheet at) (Some at)
     (or_found (points_fault corner head sheet (at + 1) k) (cables_fault head sheet (line + 1) m (at + (1 + k))))
 
 -- 19, of a sheet of n parts and m cables: 'place the first such word'. One that is missing would stand behind the last.
-unfoldable pub check19 : ℕ → ℕ → List ℕ → Found
+unfoldable pub check19 : ℕ → ℕ → List ℕ → Option ℕ
 check19 n m sheet =
     let head = get_or sheet 0 0 in
-    cond (misplaced is_head sheet 0) (At 0) (or_found (points_fault part head sheet 1 n) (cables_fault head sheet 0 m (1 + n)))
+    cond (misplaced is_head sheet 0) (Some 0) (or_found (points_fault part head sheet 1 n) (cables_fault head sheet 0 m (1 + n)))
 
 -- The same as a claim
 

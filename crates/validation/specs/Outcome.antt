@@ -1,8 +1,7 @@
 -- Request 2026-09: what is accepted, and what the call answers for a list and a sheet. Assumes nothing.
 use Rattle.std.specs.Prelude.{◌≡◌, List, [], ◌∷◌, ◌++◌, ℕ, length}
-use Rattle.checks.specs.declared.Verdict.{Verdict}
-use Rattle.checks.specs.declared.Verdict.TheVariants.{Passed}
-use Rattle.checks.specs.Checks.{Check, Clear, first_refusal}
+use Rattle.checks.specs.declared.Fault.TheVariants as faults
+use Rattle.checks.specs.Checks.{Check, Clear, first_refusal, Verdict, passed}
 use Rattle.station.specs.Station.{station_of}
 use Rattle.order.specs.Checks.{all_checks}
 use Rattle.drawing.specs.Drawing.{Meets}
@@ -24,8 +23,8 @@ pub record Accepted (list sheet : List ℕ) : Type 0 where
 unfoldable pub sheet_checks : List ℕ → List Check
 sheet_checks sheet =
     all_checks
-    ++ record { number = 19; finds = λ list. check19 (station_of list).parts (length (station_of list).cables) sheet }
-    ∷ record { number = 20; finds = λ list. check20 (station_of list) sheet }
+    ++ record { fault = faults.OutOfLayout; finds = λ list. check19 (station_of list).parts (length (station_of list).cables) sheet }
+    ∷ record { fault = faults.BrokenRule; finds = λ list. check20 (station_of list) sheet }
     ∷ []
 
 -- the answer for a list and a sheet
@@ -35,5 +34,5 @@ sheet_verdict list sheet = first_refusal (sheet_checks sheet) list
 -- A call: its answer, and that it accepts exactly what is to be accepted.
 pub record Validates (list sheet : List ℕ) (verdict : Verdict) : Type 0 where
   pub answers : verdict ≡ sheet_verdict list sheet
-  pub accepts : verdict ≡ Passed → Clear all_checks list × Accepted list sheet
-  pub accepted : Clear all_checks list → Accepted list sheet → verdict ≡ Passed
+  pub accepts : verdict ≡ passed → Clear all_checks list × Accepted list sheet
+  pub accepted : Clear all_checks list → Accepted list sheet → verdict ≡ passed

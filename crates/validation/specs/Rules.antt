@@ -1,6 +1,5 @@
 -- Request 2026-09, 20: 'a line that breaks the rules'. Assumes nothing.
-use Rattle.std.specs.Prelude.{ℕ, Bool, true, false, not, ◌&&◌, ◌||◌, List, length, get_or, eqb}
-use Rattle.lists.specs.declared.Found.{Found}
+use Rattle.std.specs.Prelude.{ℕ, Bool, true, false, not, ◌&&◌, ◌||◌, List, length, get_or, eqb, Option}
 use Rattle.lists.specs.Search.{seek}
 use Rattle.lists.specs.Select.{any, range}
 use Rattle.station.specs.Station.{Station, no_cable}
@@ -40,7 +39,7 @@ wrong_pair st d i j = not (eqb i j) && not (together d.width d.height (points_ri
 
 -- 20: 'place the lowest cable that fails to join its parts so, touches itself or touches a part wrongly; where none does, the lowest cable
 -- of any pair that meets wrongly'
-unfoldable pub check20 : Station → List ℕ → Found
+unfoldable pub check20 : Station → List ℕ → Option ℕ
 check20 st sheet =
     let d = shown st sheet in
     let m = length st.cables in

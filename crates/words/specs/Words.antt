@@ -1,6 +1,9 @@
 -- Document 01, 'The words', the two kinds of request 2026-01, the ones of 2026-05, 2026-08 and 2026-10, and the marks of 2026-10: each kind
 -- of word made and taken apart, over ℕ. Assumes nothing.
-use Rattle.std.specs.Prelude.{ℕ, ◌+◌, ◌*◌, ◌/◌, ◌%◌}
+use Rattle.std.specs.Prelude.{◌≡◌, ℕ, ◌+◌, ◌*◌, ◌/◌, ◌%◌, Result, Ok, Err}
+use Rattle.words.specs.declared.Kind.{Kind}
+use Rattle.words.specs.declared.Kind.TheVariants as kinds
+use Rattle.words.specs.declared.UnknownKind.{UnknownKind}
 
 -- 'The top four bits (31 to 28) are the kind.'
 abbrev pub kind_of : ℕ → ℕ
@@ -150,6 +153,26 @@ steps_of w = w % 65536
 -- 2026-10: what lies at a mark, in words of a kind of ours
 abbrev pub hit : ℕ
 hit = 11
+
+-- the kinds by their numbers
+abbrev pub kind_number : Kind → ℕ
+kind_number kinds.Price = price
+kind_number kinds.ListHead = list_head
+kind_number kinds.Ends = ends
+kind_number kinds.Cable = cable
+kind_number kinds.SheetHead = sheet_head
+kind_number kinds.Part = part
+kind_number kinds.SheetCable = sheet_cable
+kind_number kinds.Corner = corner
+kind_number kinds.CableLength = cable_length
+kind_number kinds.PartSort = part_sort
+kind_number kinds.TotalLength = total_length
+kind_number kinds.Hit = hit
+
+-- the kind of a number, or the number, where no kind has it
+abbrev pub NamesKind : ℕ → Result Kind UnknownKind → Type 0
+NamesKind number (Ok kind) = kind_number kind ≡ number
+NamesKind number (Err unknown) = (unknown.0 ≡ number) × ((kind : Kind) → kind_number kind ≡ number → ⊥)
 
 -- 'blank, one part, one cable, or two cables crossing', in bits 27 to 24
 abbrev pub blank_hit : ℕ

@@ -102,6 +102,23 @@ pub room_left :
     {l m : List ℕ} {at i : ℕ} (b : Bool) (w rest : ℕ) → Stored l at (cons_if b w []) m i → at + (one_if b + rest) ≤ length l → i + rest ≤ length m
 room_left b w rest S h = omega (arith, S.place, length_cons_if b w [], stored_kept S)
 
+-- behind the first corner, the second and the third, if they were to be stored
+module _ (c : Course) {t : Bool} {l m : List ℕ} {at i : ℕ} where
+  pub first_left :
+      c.low < c.high → t ≡ (dips c && shifts c) → Stored l at (cons_if t (corner_word c.from.x c.low) []) m i → at + length (corners_of c) ≤ length l
+      → i + (one_if (dips c || shifts c) + (one_if (returns c) + one_if (drops c))) ≤ length m
+  first_left h e S b = room_left t (corner_word c.from.x c.low) _ S (omega (arith, corner_count_lem c h, ap one_if e))
+
+  pub second_left :
+      t ≡ (dips c || shifts c) → Stored l at (cons_if t (corner_word c.column c.low) []) m i
+      → at + (one_if (dips c || shifts c) + (one_if (returns c) + one_if (drops c))) ≤ length l → i + (one_if (returns c) + one_if (drops c)) ≤ length m
+  second_left e S b = room_left t (corner_word c.column c.low) _ S (omega (arith, ap one_if e))
+
+pub third_left :
+    (c : Course) {l m : List ℕ} {at i : ℕ} → Stored l at (cons_if (returns c) (corner_word c.column c.high) []) m i
+    → at + (one_if (returns c) + one_if (drops c)) ≤ length l → i + one_if (drops c) ≤ length m
+third_left c S b = room_left (returns c) (corner_word c.column c.high) _ S b
+
 pub stored_taken : {l m : List ℕ} {at i v : ℕ} (b : Bool) (w : ℕ) → b ≡ true → v ≡ w → Stored l at (v ∷ []) m i → Stored l at (cons_if b w []) m i
 stored_taken b w e f S = stored_as (ap (λ (z : ℕ). z ∷ []) f ∙ ap (λ (t : Bool). cons_if t w []) (sym e)) S
 

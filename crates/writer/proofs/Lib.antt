@@ -4,3 +4,4 @@ pub mod CornerWords
 pub mod Sections
 pub mod Quotes
 pub mod Layouts
+pub mod Totals

@@ -2,4 +2,5 @@
 #![tactic(auto)]
 
 pub mod quote;
+pub mod records;
 pub mod sheet;

@@ -5,7 +5,7 @@ use Rattle.boards.proofs.Steps.{bit_shifted}
 use Rattle.boards.proofs.with_bit.Goals as goal
 
 pub overflow_add-result : goal.overflow_add-result
-overflow_add-result c = omega (arith, bit_shifted _ c.requires.b_bound, bit_fits _ _ c.requires.b_value c.requires.b_bound (omega arith))
+overflow_add-result c = omega (arith, bit_shifted _ c.requires.bit_bound, bit_fits _ _ c.requires.bit_unset c.requires.bit_bound (omega arith))
 
 pub returns : goal.returns
-returns c = rw (bit_shifted _ c.requires.b_bound)
+returns c = rw (bit_shifted _ c.requires.bit_bound)

@@ -1,41 +1,32 @@
 -- 12, 13 or the first of checks 1 to 10 that applies is the answer; a list that passes them is drawn. Assumes nothing.
-use mathlib.Core.Path.{◌≡◌, sym, ◌∙◌}
-use Rattle.lists.specs.declared.Found.TheVariants.{Nothing}
+use Rattle.std.specs.Prelude.{None}
+use mathlib.Core.Path.{◌≡◌, ◌∙◌}
 use Rattle.prices.specs.Discounts.{check12}
-use Rattle.checks.specs.Checks.{first_refusal}
-use Rattle.order.specs.Checks.{all_checks}
 use Rattle.drawing.specs.Spacing.{check13}
-use Rattle.hookup.specs.Checks.{given_checks}
-use Rattle.hookup.proofs.CallChecks.{refused_12, refused_13, list_decides}
-use Rattle.hookup.proofs.Answers.{drew_sent_back}
+use Rattle.hookup.proofs.CallChecks.{list_decides}
+use Rattle.drafting.proofs.Refusals.{found_nothing, drew_12, drew_13, drew_list}
 use Rattle.drafting.proofs.draw.Goals as goal
-use Rattle.drafting.proofs.draw.Goals.{In_default, In_default-check13}
+use Rattle.drafting.proofs.draw.Goals.{In_ok-refuse, In_ok-refuse-2}
 
-none_12 : (c : In_default) → check12 c.args.options.discount ≡ Nothing
-none_12 c = sym c.check12.ensures ∙ c.in_default.is
+none_12 : (c : In_ok-refuse) → check12 c.args.options.discount ≡ None
+none_12 c = found_nothing _ _ c.check12.ensures c.in_ok-refuse.ensures
 
-none_13 : (c : In_default-check13) → check13 c.args.options.spacing ≡ Nothing
-none_13 c = sym c.check13.ensures ∙ c.in_default-check13.is
+none_13 : (c : In_ok-refuse-2) → check13 c.args.options.spacing ≡ None
+none_13 c = found_nothing _ _ c.check13.ensures c.in_ok-refuse-2.ensures
 
-none_12-In_default-check13 : (c : In_default-check13) → check12 c.args.options.discount ≡ Nothing
-none_12-In_default-check13 c = sym c.check12.ensures ∙ c.in_default.is
+pub returns-in_err-refuse : goal.returns-in_err-refuse
+returns-in_err-refuse c = drew_12 _ _ _ _ c.from_residual.ensures.1 c.check12.ensures c.in_err-refuse.ensures
 
--- once 12 and 13 find nothing, the list decides
-decides : (c : In_default-check13) → first_refusal (given_checks c.args.options) c.args.list.now ≡ first_refusal all_checks c.args.list.now
-decides c = list_decides c.args.options _ (none_12-In_default-check13 c) (none_13 c)
+pub returns-in_err-refuse-2 : goal.returns-in_err-refuse-2
+returns-in_err-refuse-2 c =
+    drew_13 _ _ _ _ c.from_residual-in_err-refuse-2.ensures.1 (none_12 (goal.at.returns-in_err-refuse-2 c).In_ok-refuse) c.check13.ensures c.in_err-refuse-2.ensures
 
-pub returns-in-At : goal.returns-in-At
-returns-in-At c = drew_sent_back _ _ _ _ _ (refused_12 c.args.options _ _ (sym c.check12.ensures ∙ c.in-At.is))
+pub returns-in_err-ranking : goal.returns-in_err-ranking
+returns-in_err-ranking c =
+    let j = goal.at.returns-in_err-ranking c in
+    drew_list _ _ _ _ c.from_residual-in_err-ranking.ensures.1 (none_12 j.In_ok-refuse) (none_13 j.In_ok-refuse-2) c.in_err-ranking.ensures
 
-pub returns-in-At-check13 : goal.returns-in-At-check13
-returns-in-At-check13 c = drew_sent_back _ _ _ _ _ (refused_13 c.args.options _ (none_12 (goal.at.returns-in-At-check13 c).In_default) _ (sym c.check13.ensures ∙ c.in-At-check13.is))
-
-pub returns-in-Refused : goal.returns-in-Refused
-returns-in-Refused c = drew_sent_back _ _ _ _ _ (decides (goal.at.returns-in-Refused c).In_default-check13 ∙ sym c.check_and_rank-checked.ensures.verdict ∙ c.in-Refused.is)
-
-pub draw_station-requires : goal.draw_station-requires
-draw_station-requires c = let passed = c.in_default-verdict.is in
-    record {
-      clear = decides (goal.at.draw_station-requires c).In_default-check13 ∙ sym c.check_and_rank-checked.ensures.verdict ∙ passed;
-      ranking_of = c.check_and_rank-checked.ensures.ranking passed;
-    }
+pub draw_station-requires-clause-clear : goal.draw_station-requires-clause-clear
+draw_station-requires-clause-clear c =
+    let j = goal.at.draw_station-requires-clause-clear c in
+    list_decides c.args.options _ (none_12 j.In_ok-refuse) (none_13 j.In_ok-refuse-2) ∙ c.in_ok-ranking.ensures.0

@@ -1,4 +1,5 @@
 -- `editing::check_new` meets its contract. Assumes nothing.
+use Rattle.std.proofs.Common.{rules, Err}
 use native.Mathlib.Omega.{arith}
 use mathlib.Core.Path.{◌≡◌, sym, ap, ◌∙◌}
 use lib.Seq.{length-take-le}
@@ -25,11 +26,13 @@ slice_bounds-check_cable-end c = sym (length-take-le _ _ (omega (arith, c.list_l
 pub check_cable-requires : goal.check_cable-requires
 check_cable-requires c = rw (taken _ c.list_length-length.ensures) (passed (goal.at.check_cable-requires c).After-list_length-length)
 
-pub returns-in-Refused : goal.returns-in-Refused
-returns-in-Refused c = sym (cable_refused _ _ _ _ _ (cable_verdict (goal.at.returns-in-Refused c).After-check_cable ∙ c.in-Refused.is))
+pub returns-in_err-check_cable : goal.returns-in_err-check_cable
+returns-in_err-check_cable c =
+    let e : c.from_residual.result ≡ Err c.in_err-check_cable.field-0.0 = search rules in
+    e ∙ sym (cable_refused _ _ _ _ _ (cable_verdict (goal.at.returns-in_err-check_cable c).After-check_cable ∙ c.in_err-check_cable.was))
 
 pub returns-then-row-length : goal.returns-then-row-length
-returns-then-row-length c = sym (no_room _ _ _ (cable_verdict (goal.at.returns-then-row-length c).After-check_cable ∙ c.in_default.is) (omega (arith, c.list_length-length.ensures, length_due _ (passed (goal.at.returns-then-row-length c).After-list_length-length))))
+returns-then-row-length c = sym (no_room _ _ _ (cable_verdict (goal.at.returns-then-row-length c).After-check_cable ∙ c.in_ok-check_cable.was) (omega (arith, c.list_length-length.ensures, length_due _ (passed (goal.at.returns-then-row-length c).After-list_length-length))))
 
 pub returns : goal.returns
-returns c = sym (new_passed _ _ _ (cable_verdict (goal.at.returns c).After-check_cable ∙ c.in_default.is) (omega (arith, c.list_length-length.ensures, length_due _ (passed (goal.at.returns c).After-list_length-length))))
+returns c = sym (new_passed _ _ _ (cable_verdict (goal.at.returns c).After-check_cable ∙ c.in_ok-check_cable.was) (omega (arith, c.list_length-length.ensures, length_due _ (passed (goal.at.returns c).After-list_length-length))))

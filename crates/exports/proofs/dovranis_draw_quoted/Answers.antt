@@ -1,9 +1,6 @@
 -- The call that draws, its answer told. Assumes nothing.
-use Rattle.exports.proofs.Calls.{drew_numbered, called}
+use Rattle.exports.proofs.Calls.{called}
 use Rattle.exports.proofs.dovranis_draw_quoted.Goals as goal
-
-pub tell-requires : goal.tell-requires
-tell-requires c = drew_numbered _ c.draw.ensures
 
 pub returns : goal.returns
 returns c = called c.quoted.ensures c.draw.ensures c.tell.ensures

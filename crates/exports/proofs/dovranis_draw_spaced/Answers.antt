@@ -1,9 +1,6 @@
 -- The call that draws, with a spacing, its answer told. Assumes nothing.
-use Rattle.exports.proofs.Calls.{drew_numbered, called_spaced}
+use Rattle.exports.proofs.Calls.{called_spaced}
 use Rattle.exports.proofs.dovranis_draw_spaced.Goals as goal
-
-pub tell-requires : goal.tell-requires
-tell-requires c = drew_numbered _ c.draw.ensures
 
 pub returns : goal.returns
 returns c = called_spaced c.spaced-options.ensures c.of.ensures c.plain.ensures c.draw.ensures c.tell.ensures

@@ -1,9 +1,10 @@
 -- Each arm stores what its answer holds, and the result says which arm. Assumes nothing.
-use Rattle.exports.proofs.Calls.{told_sheet, told_refused}
+use Rattle.std.proofs.Common.{refl}
+use Rattle.exports.proofs.Telling.{told_ok, told_err}
 use Rattle.exports.proofs.tell.Goals as goal
 
-pub returns-in-Sheet : goal.returns-in-Sheet
-returns-in-Sheet c = told_sheet c.in-Sheet.is
+pub returns-in-Ok : goal.returns-in-Ok
+returns-in-Ok c = told_ok _ _ _ c.in-Ok.is (refl, refl)
 
-pub returns-in-Refused : goal.returns-in-Refused
-returns-in-Refused c = rw (c.refuse.ensures.0, c.refuse.ensures.1) (told_refused c.in-Refused.check c.requires c.in-Refused.is)
+pub returns-in-Err : goal.returns-in-Err
+returns-in-Err c = rw (c.refuse.ensures.0, c.refuse.ensures.1) (told_err _ _ _ c.in-Err.is (refl, refl))

@@ -1,80 +1,59 @@
--- `listing::check_list` meets its contract: the first of checks 1 to 4 that finds a place, or what the later ones say. Assumes nothing.
-use mathlib.Core.Path.{refl, sym, ◌∙◌}
-use native.Mathlib.Omega.{arith}
+-- `listing::check_list` meets its contract: each check behind those that find nothing. Assumes nothing.
+use Rattle.std.proofs.Common.{rules, ◌≡◌, arith, Err, ◌∙◌}
+use Rattle.checks.specs.Checks.{Clear}
+use Rattle.checks.proofs.FirstRefusal.{refused_next, clear_next, no_check}
 use Rattle.lists.specs.Select.{filter}
-use Rattle.checks.specs.Checks.{first_refusal, Clear}
 use Rattle.station.specs.Checks.{list_checks}
 use Rattle.station.specs.Code.{up_to}
-use Rattle.checks.proofs.FirstRefusal.{first_found, clear_more}
 use Rattle.station.proofs.Each.{two_words}
+use Rattle.listing.proofs.check_list.Goals.{In_ok-refuse, In_ok-refuse-2, In_ok-refuse-3, In_ok-refuse-4}
 use Rattle.listing.proofs.check_list.Goals as goal
-use Rattle.listing.proofs.check_list.Goals.{In_default, In_default-misplaced_word, In_default-wrong_length, Start}
 
-clear_0 : (c : Start) → Clear (up_to 0) c.args.list.now
-unfolding list_checks filter first_refusal
-clear_0 c = refl
-
-clear_0-In_default : (c : In_default) → Clear (up_to 0) c.args.list.now
-unfolding list_checks filter first_refusal
-clear_0-In_default c = refl
-
-clear_1 : (c : In_default) → Clear (up_to 1) c.args.list.now
+clear_1 : (c : In_ok-refuse) → Clear (up_to 1) c.args.list.now
 unfolding list_checks filter
-clear_1 c = clear_more _ (up_to 0) _ (clear_0-In_default c) (sym c.too_short.ensures ∙ c.in_default.is)
+clear_1 c = clear_next (up_to 0) _ (no_check _) c.too_short.ensures c.refuse.ensures c.in_ok-refuse.was
 
-clear_0-In_default-misplaced_word : (c : In_default-misplaced_word) → Clear (up_to 0) c.args.list.now
-unfolding list_checks filter first_refusal
-clear_0-In_default-misplaced_word c = refl
-
-clear_1-In_default-misplaced_word : (c : In_default-misplaced_word) → Clear (up_to 1) c.args.list.now
+clear_2 : (c : In_ok-refuse-2) → Clear (up_to 2) c.args.list.now
 unfolding list_checks filter
-clear_1-In_default-misplaced_word c = clear_more _ (up_to 0) _ (clear_0-In_default-misplaced_word c) (sym c.too_short.ensures ∙ c.in_default.is)
+clear_2 c = clear_next (up_to 1) _ (clear_1 (goal.at.wrong_length-requires c).In_ok-refuse) c.misplaced_word.ensures c.refuse-2.ensures c.in_ok-refuse-2.was
 
-clear_2 : (c : In_default-misplaced_word) → Clear (up_to 2) c.args.list.now
+clear_3 : (c : In_ok-refuse-3) → Clear (up_to 3) c.args.list.now
 unfolding list_checks filter
-clear_2 c = clear_more _ (up_to 1) _ (clear_1-In_default-misplaced_word c) (sym c.misplaced_word.ensures ∙ c.in_default-misplaced_word.is)
+clear_3 c = clear_next (up_to 2) _ (clear_2 (goal.at.wrong_parts-requires c).In_ok-refuse-2) c.wrong_length.ensures c.refuse-3.ensures c.in_ok-refuse-3.was
 
-clear_0-In_default-wrong_length : (c : In_default-wrong_length) → Clear (up_to 0) c.args.list.now
-unfolding list_checks filter first_refusal
-clear_0-In_default-wrong_length c = refl
-
-clear_1-In_default-wrong_length : (c : In_default-wrong_length) → Clear (up_to 1) c.args.list.now
+pub returns-in_err-refuse : goal.returns-in_err-refuse
 unfolding list_checks filter
-clear_1-In_default-wrong_length c = clear_more _ (up_to 0) _ (clear_0-In_default-wrong_length c) (sym c.too_short.ensures ∙ c.in_default.is)
+returns-in_err-refuse c =
+    let e : c.from_residual.result ≡ Err c.in_err-refuse.field-0.0 = search rules in
+    e ∙ refused_next (up_to 0) _ (no_check _) c.too_short.ensures c.refuse.ensures _ c.in_err-refuse.was
 
-clear_2-In_default-wrong_length : (c : In_default-wrong_length) → Clear (up_to 2) c.args.list.now
+pub returns-in_err-refuse-2 : goal.returns-in_err-refuse-2
 unfolding list_checks filter
-clear_2-In_default-wrong_length c = clear_more _ (up_to 1) _ (clear_1-In_default-wrong_length c) (sym c.misplaced_word.ensures ∙ c.in_default-misplaced_word.is)
-
-clear_3 : (c : In_default-wrong_length) → Clear (up_to 3) c.args.list.now
-unfolding list_checks filter
-clear_3 c = clear_more _ (up_to 2) _ (clear_2-In_default-wrong_length c) (sym c.wrong_length.ensures ∙ c.in_default-wrong_length.is)
-
-pub returns-in-At : goal.returns-in-At
-unfolding list_checks filter
-returns-in-At c = sym (first_found _ (up_to 0) _ _ _ (clear_0 (goal.at.returns-in-At c).Start) (sym c.too_short.ensures ∙ c.in-At.is))
-
-pub returns-in-At-misplaced_word : goal.returns-in-At-misplaced_word
-unfolding list_checks filter
-returns-in-At-misplaced_word c = sym (first_found _ (up_to 1) _ _ _ (clear_1 (goal.at.returns-in-At-misplaced_word c).In_default) (sym c.misplaced_word.ensures ∙ c.in-At-misplaced_word.is))
+returns-in_err-refuse-2 c =
+    let e : c.from_residual-in_err-refuse-2.result ≡ Err c.in_err-refuse-2.field-0.0 = search rules in
+    e ∙ refused_next (up_to 1) _ (clear_1 (goal.at.returns-in_err-refuse-2 c).In_ok-refuse) c.misplaced_word.ensures c.refuse-2.ensures _ c.in_err-refuse-2.was
 
 pub wrong_length-requires : goal.wrong_length-requires
-wrong_length-requires c = omega (arith, two_words _ 1 (clear_1 (goal.at.wrong_length-requires c).In_default) (omega arith))
+wrong_length-requires c = omega (arith, two_words _ 1 (clear_1 (goal.at.wrong_length-requires c).In_ok-refuse) (omega arith))
 
-pub returns-in-At-wrong_length : goal.returns-in-At-wrong_length
+pub returns-in_err-refuse-3 : goal.returns-in_err-refuse-3
 unfolding list_checks filter
-returns-in-At-wrong_length c = sym (first_found _ (up_to 2) _ _ _ (clear_2 (goal.at.returns-in-At-wrong_length c).In_default-misplaced_word) (sym c.wrong_length.ensures ∙ c.in-At-wrong_length.is))
+returns-in_err-refuse-3 c =
+    let e : c.from_residual-in_err-refuse-3.result ≡ Err c.in_err-refuse-3.field-0.0 = search rules in
+    e ∙ refused_next (up_to 2) _ (clear_2 (goal.at.returns-in_err-refuse-3 c).In_ok-refuse-2) c.wrong_length.ensures c.refuse-3.ensures _ c.in_err-refuse-3.was
 
 pub wrong_parts-requires : goal.wrong_parts-requires
-wrong_parts-requires c = omega (arith, two_words _ 1 (clear_1 (goal.at.wrong_parts-requires c).In_default) (omega arith))
+wrong_parts-requires c = omega (arith, two_words _ 1 (clear_1 (goal.at.wrong_parts-requires c).In_ok-refuse) (omega arith))
 
-pub returns-in-At-wrong_parts : goal.returns-in-At-wrong_parts
+pub returns-in_err-refuse-4 : goal.returns-in_err-refuse-4
 unfolding list_checks filter
-returns-in-At-wrong_parts c = sym (first_found _ (up_to 3) _ _ _ (clear_3 (goal.at.returns-in-At-wrong_parts c).In_default-wrong_length) (sym c.wrong_parts.ensures ∙ c.in-At-wrong_parts.is))
+returns-in_err-refuse-4 c =
+    let e : c.from_residual-in_err-refuse-4.result ≡ Err c.in_err-refuse-4.field-0.0 = search rules in
+    e ∙ refused_next (up_to 3) _ (clear_3 (goal.at.returns-in_err-refuse-4 c).In_ok-refuse-3) c.wrong_parts.ensures c.refuse-4.ensures _ c.in_err-refuse-4.was
 
 pub check_parts-requires : goal.check_parts-requires
 unfolding list_checks filter
-check_parts-requires c = clear_more _ (up_to 3) _ (clear_3 (goal.at.check_parts-requires c).In_default-wrong_length) (sym c.wrong_parts.ensures ∙ c.in_default-wrong_parts.is)
+check_parts-requires c = clear_next (up_to 3) _ (clear_3 (goal.at.check_parts-requires c).In_ok-refuse-3) c.wrong_parts.ensures c.refuse-4.ensures c.in_ok-refuse-4.was
 
 pub returns : goal.returns
 returns c = c.check_parts.ensures

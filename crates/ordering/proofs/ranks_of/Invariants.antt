@@ -5,6 +5,3 @@ use Rattle.ordering.proofs.ranks_of.Given as goal
 
 abbrev pub invariant-loop-k : goal.invariant-loop-k
 invariant-loop-k l = Filling (part_numbers l.part) l.n l.rank l.k
-
-abbrev pub decreases-loop-k : goal.decreases-loop-k
-decreases-loop-k l = l.k

@@ -1,7 +1,7 @@
 -- `printing::load` meets its contract. Assumes nothing.
 use mathlib.Core.Path.{refl, sym, ◌∙◌, ap}
 use native.Mathlib.Omega.{arith}
-use Rattle.printing.specs.declared.Loaded.TheVariants.{Words}
+use Rattle.std.specs.Prelude.{Ok}
 use Rattle.printing.proofs.FileLaws.{loaded_large, loaded_broken, loaded_words}
 use Rattle.printing.proofs.load.Goals as goal
 
@@ -19,6 +19,6 @@ returns-then-bytes-ne0 c = record {
 
 pub returns : goal.returns
 returns c = record {
-  answer = ap Words c.read_words.ensures.count ∙ sym (loaded_words _ (omega arith) (omega arith));
+  answer = ap Ok c.read_words.ensures.count ∙ sym (loaded_words _ (omega arith) (omega arith));
   stored = c.read_words.ensures.stored ∙ simp c.read_words.ensures.count;
 }

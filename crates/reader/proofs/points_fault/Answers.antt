@@ -1,24 +1,13 @@
--- `reader::points_fault` meets its contract. The loop's invariant is `Searching`. Assumes nothing.
-use mathlib.Core.Path.{sym, ◌∙◌}
+-- `reader::points_fault` meets its contract. Assumes nothing.
+use Rattle.std.proofs.Common.{rules}
+use native.Mathlib.Omega.{arith}
+use mathlib.Core.Path.{ap, ◌∙◌}
+use borrow.Author.Tests.{tests}
+use Rattle.lists.specs.Search.{seek}
+use Rattle.lists.proofs.Searches.{found_by_find}
 use Rattle.validation.specs.Layout.{points_fault}
-use Rattle.reader.proofs.Faults.{searching_start, searching_next, searching_at, searching_end}
 use Rattle.reader.proofs.points_fault.Goals as goal
-
-pub loop-i-init : goal.loop-i-init
-loop-i-init c = searching_start _ _ _
-
-pub no_point-requires : goal.no_point-requires
-no_point-requires c = c.requires.sheet_nonzero
-
-pub returns-then-no_point : goal.returns-then-no_point
-unfolding points_fault
-returns-then-no_point c = searching_at c.loop-i.invariant c.loop-i-test.true
-    (sym c.no_point.ensures ∙ c.if-no_point.true)
-
-pub loop-i-preserved : goal.loop-i-preserved
-loop-i-preserved c = searching_next c.loop-i.invariant c.loop-i-test.true
-    (sym c.no_point.ensures ∙ c.if-no_point.false)
 
 pub returns : goal.returns
 unfolding points_fault
-returns c = searching_end c.loop-i.invariant c.loop-i-test.false
+returns c = found_by_find _ _ _ _ _ c.find.ensures.ran (λ x b q k. search (rules, tests)) ∙ ap (seek _ c.args.at) (omega arith)

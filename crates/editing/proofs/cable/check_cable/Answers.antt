@@ -9,7 +9,7 @@ use Rattle.lists.proofs.Bools.{or_fails}
 use Rattle.words.specs.Words.{parts_of}
 use Rattle.station.proofs.Cables.{parts_are}
 use Rattle.editor.proofs.Longer.{two, between}
-use Rattle.editor.proofs.Verdicts.{refused_5, refused_6, refused_8, all_passed}
+use Rattle.editor.proofs.Verdicts.{refused_5, refused_6, crowded_decides}
 use Rattle.editing.proofs.cable.check_cable.Goals as goal
 use Rattle.editing.proofs.cable.check_cable.Goals.{After-part_count, Else-is_outside}
 
@@ -40,14 +40,6 @@ returns-then-is_outside c = sym (refused_5 _ c.requires _ _ (rw (← count_is (g
 pub returns-then-one-other : goal.returns-then-one-other
 returns-then-one-other c = let i = inside (goal.at.returns-then-one-other c).Else-is_outside in sym (refused_6 _ c.requires _ _ i.0 i.1 (omega arith))
 
-pub crowded_end-requires : goal.crowded_end-requires
-crowded_end-requires c = let i = inside (goal.at.crowded_end-requires c).Else-is_outside in record {
-  clear = c.requires;
-  one_bound = (rw (parts_are _) i.0, rw (parts_are _) i.1);
-}
-
-pub returns-in-At : goal.returns-in-At
-returns-in-At c = let i = inside (goal.at.returns-in-At c).Else-is_outside in sym (refused_8 _ c.requires _ _ i.0 i.1 (λ e. c.if-one-other.false (omega arith)) _ (sym c.crowded_end.ensures ∙ c.in-At.is))
-
 pub returns : goal.returns
-returns c = let i = inside (goal.at.returns c).Else-is_outside in sym (all_passed _ c.requires _ _ i.0 i.1 (λ e. c.if-one-other.false (omega arith)) (sym c.crowded_end.ensures ∙ c.in_default.is))
+returns c = let i = inside (goal.at.returns c).Else-is_outside in
+    c.refuse.ensures ∙ crowded_decides _ c.requires _ _ i.0 i.1 (λ e. c.if-one-other.false (omega arith)) c.crowded_end.ensures

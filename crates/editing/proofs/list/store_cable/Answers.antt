@@ -1,7 +1,6 @@
 -- `editing::list::store_cable` meets its contract. Assumes nothing.
 use native.Mathlib.Omega.{arith}
 use mathlib.Core.Path.{refl}
-use lib.ListN.{length-set}
 use Rattle.editor.specs.Rows.{present, raised_by}
 use Rattle.editor.specs.Operations.{stored}
 use Rattle.editing.proofs.list.store_cable.Goals as goal
@@ -13,9 +12,6 @@ bounds-row-m c = omega (arith, c.cables-m.ensures, c.requires)
 pub overflow_add-m : goal.overflow_add-m
 unfolding present
 overflow_add-m c = omega (arith, c.cables-m.ensures, c.requires)
-
-pub bounds-row-0-3 : goal.bounds-row-0-3
-bounds-row-0-3 c = simp length-set (omega (arith, c.requires))
 
 pub returns : goal.returns
 unfolding stored present raised_by

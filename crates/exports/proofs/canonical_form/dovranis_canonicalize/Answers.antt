@@ -1,9 +1,10 @@
 -- The call that puts a list into canonical form, its answer told. Assumes nothing.
-use Rattle.exports.proofs.Settling.{settled_written, settled_refused}
+use Rattle.std.proofs.Common.{refl}
+use Rattle.exports.proofs.Telling.{told_ok, told_err}
 use Rattle.exports.proofs.canonical_form.dovranis_canonicalize.Goals as goal
 
-pub returns-in-Written : goal.returns-in-Written
-returns-in-Written c = settled_written c.canonicalize.ensures c.in-Written.is
+pub returns-in-Ok : goal.returns-in-Ok
+returns-in-Ok c = record { answer = _; does = c.canonicalize.ensures; told = told_ok _ _ _ c.in-Ok.is refl }
 
-pub returns-in-Refused : goal.returns-in-Refused
-returns-in-Refused c = rw (c.refuse.ensures.0, c.refuse.ensures.1) (settled_refused c.canonicalize.ensures _ c.in-Refused.is)
+pub returns-in-Err : goal.returns-in-Err
+returns-in-Err c = rw (c.refuse.ensures.0, c.refuse.ensures.1) (record { answer = _; does = c.canonicalize.ensures; told = told_err _ _ _ c.in-Err.is refl })

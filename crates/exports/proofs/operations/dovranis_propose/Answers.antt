@@ -1,10 +1,17 @@
 -- The editor's try, its answer told. Assumes nothing.
-use mathlib.Core.Path.{sym, ◌∙◌}
-use Rattle.exports.proofs.Edits.{tried_valid, tried_refused}
+use Rattle.std.proofs.Common.{◌≡◌, ℕ, refl, ap, sym, ◌∙◌}
+use Rattle.editor.specs.declared.Proposal.{Proposal}
+use Rattle.editor.specs.Operations.{slip}
+use Rattle.editor.proofs.Effects.{valid_passed}
+use Rattle.exports.proofs.Telling.{told_ok, told_err}
 use Rattle.exports.proofs.operations.dovranis_propose.Goals as goal
 
-pub returns-in-Valid : goal.returns-in-Valid
-returns-in-Valid c = tried_valid (sym c.propose.ensures ∙ c.in-Valid.is)
+pub returns-in-Ok : goal.returns-in-Ok
+unfolding slip
+returns-in-Ok c =
+    let q : c.in-Ok.proposal ≡ slip c.args.one c.args.other c.args.row.now = (valid_passed c.args.one c.args.other c.args.row.now (sym c.propose.ensures ∙ c.in-Ok.is)).1 in
+    told_ok _ _ _ (sym c.propose.ensures ∙ c.in-Ok.is)
+    (q ∙ ap (λ (v : ℕ). record { one = c.args.one; other = c.args.other; version = v }) (sym (ap (λ (p : Proposal). p.version) q)))
 
-pub returns-in-Refused : goal.returns-in-Refused
-returns-in-Refused c = rw (c.refuse.ensures.0, c.refuse.ensures.1) (tried_refused _ (sym c.propose.ensures ∙ c.in-Refused.is))
+pub returns-in-Err : goal.returns-in-Err
+returns-in-Err c = rw (c.refuse.ensures.0, c.refuse.ensures.1) (told_err _ _ _ (sym c.propose.ensures ∙ c.in-Err.is) refl)

@@ -1,9 +1,10 @@
 -- The call for a cable's box, its answer told. Assumes nothing.
-use Rattle.exports.proofs.Locating.{enclosed_box, enclosed_refused}
+use Rattle.std.proofs.Common.{refl}
+use Rattle.exports.proofs.Telling.{told_ok, told_err}
 use Rattle.exports.proofs.pointing.dovranis_cable_bounds.Goals as goal
 
-pub returns-in-Box : goal.returns-in-Box
-returns-in-Box c = enclosed_box c.cable_bounds.ensures _ c.in-Box.is
+pub returns-in-Ok : goal.returns-in-Ok
+returns-in-Ok c = record { answer = _; does = c.cable_bounds.ensures; told = told_ok _ _ _ c.in-Ok.is refl }
 
-pub returns-in-Refused : goal.returns-in-Refused
-returns-in-Refused c = rw (c.refuse.ensures.0, c.refuse.ensures.1) (enclosed_refused c.cable_bounds.ensures _ c.in-Refused.is)
+pub returns-in-Err : goal.returns-in-Err
+returns-in-Err c = rw (c.refuse.ensures.0, c.refuse.ensures.1) (record { answer = _; does = c.cable_bounds.ensures; told = told_err _ _ _ c.in-Err.is refl })

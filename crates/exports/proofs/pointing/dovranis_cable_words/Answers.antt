@@ -1,9 +1,10 @@
 -- The call for a cable's own words, its answer told. Assumes nothing.
-use Rattle.exports.proofs.Locating.{chosen_words, chosen_refused}
+use Rattle.std.proofs.Common.{refl}
+use Rattle.exports.proofs.Telling.{told_ok, told_err}
 use Rattle.exports.proofs.pointing.dovranis_cable_words.Goals as goal
 
-pub returns-in-Words : goal.returns-in-Words
-returns-in-Words c = chosen_words c.select_cable.ensures c.in-Words.is
+pub returns-in-Ok : goal.returns-in-Ok
+returns-in-Ok c = record { answer = _; does = c.select_cable.ensures; told = told_ok _ _ _ c.in-Ok.is (refl, refl) }
 
-pub returns-in-Refused : goal.returns-in-Refused
-returns-in-Refused c = rw (c.refuse.ensures.0, c.refuse.ensures.1) (chosen_refused c.select_cable.ensures _ c.in-Refused.is)
+pub returns-in-Err : goal.returns-in-Err
+returns-in-Err c = rw (c.refuse.ensures.0, c.refuse.ensures.1) (record { answer = _; does = c.select_cable.ensures; told = told_err _ _ _ c.in-Err.is (refl, refl) })

@@ -1,9 +1,9 @@
 -- The call that holds a sheet against its list, its answer told. Assumes nothing.
-use Rattle.exports.proofs.Validating.{held_passed, held_refused}
+use Rattle.exports.proofs.Telling.{told_ok, told_err}
 use Rattle.exports.proofs.sheet_check.dovranis_check_sheet.Goals as goal
 
-pub returns-in-Passed : goal.returns-in-Passed
-returns-in-Passed c = held_passed c.check_sheet.ensures c.in-Passed.is
+pub returns-in-Ok : goal.returns-in-Ok
+returns-in-Ok c = record { verdict = _; does = c.check_sheet.ensures; told = told_ok _ _ _ c.in-Ok.is tt }
 
-pub returns-in-Refused : goal.returns-in-Refused
-returns-in-Refused c = rw (c.refuse.ensures.0, c.refuse.ensures.1) (held_refused c.check_sheet.ensures _ c.in-Refused.is)
+pub returns-in-Err : goal.returns-in-Err
+returns-in-Err c = rw (c.refuse.ensures.0, c.refuse.ensures.1) (record { verdict = _; does = c.check_sheet.ensures; told = told_err _ _ _ c.in-Err.is tt })

@@ -1,9 +1,10 @@
 -- The call that finds signal levels, its answer told. Assumes nothing.
-use Rattle.exports.proofs.Levelling.{metered_written, metered_refused}
+use Rattle.std.proofs.Common.{refl}
+use Rattle.exports.proofs.Telling.{told_ok, told_err}
 use Rattle.exports.proofs.signal_levels.dovranis_levels.Goals as goal
 
-pub returns-in-Written : goal.returns-in-Written
-returns-in-Written c = metered_written c.find_levels.ensures c.in-Written.is
+pub returns-in-Ok : goal.returns-in-Ok
+returns-in-Ok c = record { answer = _; does = c.find_levels.ensures; told = told_ok _ _ _ c.in-Ok.is refl }
 
-pub returns-in-Refused : goal.returns-in-Refused
-returns-in-Refused c = rw (c.refuse.ensures.0, c.refuse.ensures.1) (metered_refused c.find_levels.ensures _ c.in-Refused.is)
+pub returns-in-Err : goal.returns-in-Err
+returns-in-Err c = rw (c.refuse.ensures.0, c.refuse.ensures.1) (record { answer = _; does = c.find_levels.ensures; told = told_err _ _ _ c.in-Err.is refl })

@@ -1,46 +1,39 @@
 -- `listing::degrees::crowded_part` meets its contract: a search over the parts. Assumes nothing.
-use mathlib.Core.Path.{◌≡◌, sym, ◌∙◌}
-use native.Mathlib.Nat.{sub-zero}
-use native.Mathlib.Omega.{arith}
-use lib.ListN.{get_or}
-use Rattle.lists.proofs.Search.{seek_at, seek_next, seek_end}
+use Rattle.std.proofs.Common.{rules, ◌≡◌, ◌<◌, ℕ, length, take, ltb, arith, sym, ap, ◌∙◌, ◌+◌}
+use borrow.Author.Tests.{tests}
+use Rattle.std.proofs.lemmas.List.{length-take-le, get_or-take}
+use Rattle.std.proofs.Math.ListN.{get_or}
+use Rattle.lists.specs.Search.{seek}
+use Rattle.lists.proofs.Filters.{seek_same}
+use Rattle.lists.proofs.Searches.{found_by_position}
+use Rattle.words.specs.Limits.{most_degree}
 use Rattle.station.specs.Station.{station_of, degree}
 use Rattle.station.specs.Checks.{check8}
-use Rattle.station.proofs.Tests.{degree_over, degree_within}
 use Rattle.station.proofs.Each.{two_words, parts_between}
 use Rattle.station.proofs.Cables.{parts_are}
+use Rattle.listing.proofs.degrees.crowded_part.Goals.{After-cables_per_part-counts}
 use Rattle.listing.proofs.degrees.crowded_part.Goals as goal
-use Rattle.listing.proofs.degrees.crowded_part.Goals.{In-loop-p}
 
 pub part_count-n-requires : goal.part_count-n-requires
 part_count-n-requires c = two_words _ 6 c.requires (omega arith)
 
-pub cables_per_part-counts-requires : goal.cables_per_part-counts-requires
-cables_per_part-counts-requires c = c.requires
+pub slice_bounds-counts-end : goal.slice_bounds-counts-end
+slice_bounds-counts-end c = omega (arith, parts_are c.args.list.now, c.part_count-n.ensures, (parts_between _ 6 c.requires (omega arith)).1)
 
-pub loop-p-init : goal.loop-p-init
-unfolding check8
-loop-p-init c = (
-  omega arith,
-  omega (arith, parts_are c.args.list.now, c.part_count-n.ensures, (parts_between _ 6 c.requires (omega arith)).1),
-  rw (c.part_count-n.ensures, sub-zero),
-)
+counted : (c : After-cables_per_part-counts) → length (take c.part_count-n.result c.cables_per_part-counts.result) ≡ c.part_count-n.result
+counted c = length-take-le _ _ (slice_bounds-counts-end (goal.at.slice_bounds-counts-end c).After-cables_per_part-counts)
 
--- the count that is tested is the part's degree
-counted : (c : In-loop-p)
-    → get_or c.cables_per_part-counts.result c.loop-p.p 0
-    ≡ degree (station_of c.args.list.now).cables c.loop-p.p
-counted c = c.cables_per_part-counts.ensures c.loop-p.p (omega arith)
+pub slice_bounds-iter-end : goal.slice_bounds-iter-end
+slice_bounds-iter-end c = sym (counted (goal.at.slice_bounds-iter-end c).After-cables_per_part-counts)
 
-pub returns-then-counts-p-gt-MOST_DEGREE : goal.returns-then-counts-p-gt-MOST_DEGREE
-returns-then-counts-p-gt-MOST_DEGREE c = sym (c.loop-p.invariant.2 ∙ seek_at _ _ _ (omega arith) (degree_over _ _ (counted (goal.at.returns-then-counts-p-gt-MOST_DEGREE c).In-loop-p) (omega arith)))
-
-pub loop-p-preserved : goal.loop-p-preserved
-loop-p-preserved c = (
-  omega arith,
-  omega arith,
-  c.loop-p.invariant.2 ∙ seek_next _ _ _ (omega arith) (degree_within _ _ (counted (goal.at.loop-p-preserved c).In-loop-p) (omega arith)),
-)
+below : (c : goal.After-position) (p : ℕ) → p < 0 + length (take c.part_count-n.result c.cables_per_part-counts.result) → p < c.part_count-n.result
+below c p h = omega (arith, h, counted (goal.at.returns c).After-cables_per_part-counts)
 
 pub returns : goal.returns
-returns c = sym (c.loop-p.invariant.2 ∙ seek_end _ _ _ (omega arith))
+unfolding check8
+returns c =
+    let counts = take c.part_count-n.result c.cables_per_part-counts.result in
+    let st = station_of c.args.list.now in
+    found_by_position 0 (λ w. ltb most_degree w) counts _ _ _ _ c.position.ensures.ran c.iter.ensures.rest (λ x b q k. search (rules, tests))
+    ∙ seek_same (λ p. ltb most_degree (get_or counts p 0)) (λ p. ltb most_degree (degree st.cables p)) 0 (length counts) (λ p l h. ap (ltb most_degree) (get_or-take _ _ _ 0 (below c p h) ∙ c.cables_per_part-counts.ensures p (omega (arith, below c p h, parts_are c.args.list.now, c.part_count-n.ensures, (parts_between _ 6 c.requires (omega arith)).1))))
+    ∙ ap (seek (λ p. ltb most_degree (degree st.cables p)) 0) (counted (goal.at.returns c).After-cables_per_part-counts ∙ c.part_count-n.ensures)

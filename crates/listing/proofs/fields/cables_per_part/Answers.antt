@@ -16,9 +16,6 @@ here c = count_step _ _ _ c.loop-i.invariant (omega arith) c.requires _ _
 pub loop-i-init : goal.loop-i-init
 loop-i-init c = counted_start c.args.list.now most_parts refl (two_words _ 6 c.requires (omega arith))
 
-pub offset_bounds-counts-a : goal.offset_bounds-counts-a
-offset_bounds-counts-a c = omega (arith, (here (goal.at.offset_bounds-counts-a c).After-second-b).a_below)
-
 pub bounds-counts-a : goal.bounds-counts-a
 bounds-counts-a c = (here (goal.at.bounds-counts-a c).After-second-b).a_below
 
@@ -27,9 +24,6 @@ overflow_add-counts c = record { fits = (here (goal.at.overflow_add-counts c).Af
 
 pub bounds-counts-a-in-loop-i : goal.bounds-counts-a-in-loop-i
 bounds-counts-a-in-loop-i c = (here (goal.at.bounds-counts-a-in-loop-i c).After-second-b).a_below
-
-pub offset_bounds-counts-b : goal.offset_bounds-counts-b
-offset_bounds-counts-b c = omega (arith, (here (goal.at.offset_bounds-counts-b c).After-second-b).b_below)
 
 pub bounds-counts-b : goal.bounds-counts-b
 bounds-counts-b c = (here (goal.at.bounds-counts-b c).After-second-b).b_below

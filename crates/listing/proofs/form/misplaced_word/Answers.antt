@@ -1,20 +1,14 @@
--- `listing::form::misplaced_word` meets its contract: a search from 0 on. Assumes nothing.
-use mathlib.Core.Path.{sym, ◌∙◌}
+-- A search from 0 on. Assumes nothing.
+use Rattle.std.proofs.Common.{rules, length, ap, ◌∙◌, get_or}
 use native.Mathlib.Nat.{sub-zero}
-use native.Mathlib.Omega.{arith}
-use Rattle.lists.proofs.Search.{seek_at, seek_next, seek_end}
-use Rattle.station.specs.Checks.{check2}
+use borrow.Author.Tests.{tests}
+use Rattle.lists.proofs.Searches.{found_by_find}
+use Rattle.lists.specs.Search.{seek}
+use Rattle.station.specs.Checks.{misplaced, check2}
 use Rattle.listing.proofs.form.misplaced_word.Goals as goal
 
-pub loop-i-init : goal.loop-i-init
-unfolding check2
-loop-i-init c = (omega arith, omega arith, rw sub-zero)
-
-pub returns-then-is_misplaced : goal.returns-then-is_misplaced
-returns-then-is_misplaced c = sym (c.loop-i.invariant.2 ∙ seek_at _ _ _ (omega arith) (sym c.is_misplaced.ensures ∙ c.if-is_misplaced.true))
-
-pub loop-i-preserved : goal.loop-i-preserved
-loop-i-preserved c = (omega arith, omega arith, c.loop-i.invariant.2 ∙ seek_next _ _ _ (omega arith) (sym c.is_misplaced.ensures ∙ c.if-is_misplaced.false))
-
 pub returns : goal.returns
-returns c = sym (c.loop-i.invariant.2 ∙ seek_end _ _ _ (omega arith))
+unfolding check2
+returns c =
+    found_by_find (λ i. misplaced i (get_or c.args.list.now i 0)) _ _ _ _ c.find.ensures.ran (λ x b q k. search (rules, tests))
+    ∙ ap (seek (λ i. misplaced i (get_or c.args.list.now i 0)) 0) (sub-zero (length c.args.list.now))

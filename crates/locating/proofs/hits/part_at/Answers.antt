@@ -1,19 +1,15 @@
--- `locating::hits::part_at` meets its contract. The loop's invariant is `Seeking`. Assumes nothing.
-use Rattle.lists.proofs.Seeking.{seeking_start, seeking_next, seeking_at, seeking_end}
-use Rattle.geometry.specs.Spots.{spot_in}
-use Rattle.locating.proofs.Naming.{part_looked}
+-- `locating::hits::part_at` meets its contract. Assumes nothing.
+use Rattle.std.proofs.Common.{rules}
+use mathlib.Core.Path.{◌∙◌}
+use borrow.Author.Tests.{tests}
+use Rattle.geometry.specs.Spots.{spot_in, same_spot}
+use Rattle.drawing.specs.Reading.{word_spot}
+use Rattle.lists.proofs.Searches.{found_by_position}
+use Rattle.locating.proofs.Naming.{parts_looked}
 use Rattle.locating.proofs.hits.part_at.Goals as goal
 
-pub loop-p-init : goal.loop-p-init
-loop-p-init c = seeking_start _ _
-
-pub returns-then-is_at : goal.returns-then-is_at
-returns-then-is_at c = seeking_at c.loop-p.invariant c.loop-p-test.true
-    (part_looked c.args.parts.now (spot_in c.args.spot) c.loop-p.p c.is_at.ensures c.if-is_at.true)
-
-pub loop-p-preserved : goal.loop-p-preserved
-loop-p-preserved c = seeking_next c.loop-p.invariant c.loop-p-test.true
-    (part_looked c.args.parts.now (spot_in c.args.spot) c.loop-p.p c.is_at.ensures c.if-is_at.false)
-
 pub returns : goal.returns
-returns c = seeking_end c.loop-p.invariant c.loop-p-test.false
+returns c =
+    found_by_position 0 (λ w. same_spot (word_spot w) (spot_in c.args.spot)) _ _ _ _ _ c.position.ensures.ran c.iter.ensures.rest
+    (λ x b q k. search (rules, tests))
+    ∙ parts_looked c.args.parts.now (spot_in c.args.spot)

@@ -9,7 +9,7 @@ unfolding spaced_course spaced_spot
 space_spot-requires c = let F = c.requires.course_fits.from in
     record {
       spacing_value = c.requires.spacing_value;
-      x_bound = (omega (arith, F.0), omega (arith, F.1));
+      fits = (omega (arith, F.0), omega (arith, F.1));
     }
 
 pub overflow_cast-result : goal.overflow_cast-result
@@ -29,7 +29,7 @@ unfolding spaced_course spaced_spot
 space_spot-requires-2 c = let F = c.requires.course_fits.to in
     record {
       spacing_value = c.requires.spacing_value;
-      x_bound = (omega (arith, F.0), omega (arith, F.1));
+      fits = (omega (arith, F.0), omega (arith, F.1));
     }
 
 pub returns : goal.returns

@@ -1,42 +1,33 @@
--- All columns move, and then each of the four places is set where there is a cable. Assumes nothing.
+-- All columns move, and then each cable that goes out gets its own. Assumes nothing.
 use native.Mathlib.Omega.{arith}
-use mathlib.Core.Path.{◌≡◌, ap, ◌∙◌}
-use lib.ListN.{length}
-use Rattle.lists.specs.Stores.{set_each}
-use Rattle.incidence.specs.Incidents.{lines_in}
+use Prim.Native.Nat.{◌<◌}
+use mathlib.Core.Path.{refl, ap}
+use lib.ListN.{length, get_or, take}
+use Rattle.lists.proofs.SetEach.{length_set_each}
+use Rattle.incidence.specs.Incidents.{lines_in, keyed_by}
 use Rattle.placement.specs.Placements.{port_columns}
-use Rattle.placement.proofs.Opening.{opens_line, opens_set}
+use Rattle.placement.proofs.Opening.{opened_none, opened_more, line_below}
 use Rattle.placement.proofs.placing.place_cables.Goals as goal
-use Rattle.placement.proofs.placing.place_cables.Goals.{After-open_cable}
+use Rattle.placement.proofs.placing.place_cables.Goals.{In-loop-i}
 
--- the columns stay as many as they were
-kept : (c : After-open_cable) → length c.open_cable.new.columns ≡ length c.args.columns.now
-kept c = c.open_cable.auto.columns ∙ c.move_columns.auto.columns
+pub loop-i-init : goal.loop-i-init
+loop-i-init c = opened_none (lines_in c.args.outs.now) (port_columns c.args.placement) _
 
-pub open_cable-requires : goal.open_cable-requires
-open_cable-requires c = record {
-  placement_fits = c.requires.placement_fits;
-  line_in_bounds = λ e. omega (arith, opens_line c.requires.opens 0 e, c.move_columns.auto.columns);
-}
+below : (c : In-loop-i) → (get_or c.args.outs.now.places c.loop-i.i (keyed_by 0 0)).line < length c.loop-i.columns
+below c =
+    omega (
+      arith,
+      line_below c.requires.opens c.loop-i.i c.loop-i-test.true (keyed_by 0 0) refl,
+      ap length c.loop-i.invariant,
+      length_set_each (take c.loop-i.i (lines_in c.args.outs.now)) (take c.loop-i.i (port_columns c.args.placement)) c.move_columns.new.columns,
+      c.move_columns.auto.columns,
+    )
 
-pub open_cable-requires-2 : goal.open_cable-requires-2
-open_cable-requires-2 c = record {
-  placement_fits = c.requires.placement_fits;
-  line_in_bounds = λ e. omega (arith, opens_line c.requires.opens 1 e, kept (goal.at.open_cable-requires-2 c).After-open_cable);
-}
+pub offset_bounds-columns-outs : goal.offset_bounds-columns-outs
+offset_bounds-columns-outs c = omega (arith, below (goal.at.offset_bounds-columns-outs c).In-loop-i)
 
-pub open_cable-requires-3 : goal.open_cable-requires-3
-open_cable-requires-3 c = record {
-  placement_fits = c.requires.placement_fits;
-  line_in_bounds = λ e. omega (arith, opens_line c.requires.opens 2 e, kept (goal.at.open_cable-requires-3 c).After-open_cable, c.open_cable-2.auto.columns);
-}
+pub bounds-columns-outs : goal.bounds-columns-outs
+bounds-columns-outs c = below (goal.at.bounds-columns-outs c).In-loop-i
 
-pub open_cable-requires-4 : goal.open_cable-requires-4
-open_cable-requires-4 c = record {
-  placement_fits = c.requires.placement_fits;
-  line_in_bounds = λ e. omega (arith, opens_line c.requires.opens 3 e, kept (goal.at.open_cable-requires-4 c).After-open_cable, c.open_cable-2.auto.columns, c.open_cable-3.auto.columns);
-}
-
-pub returns : goal.returns
-returns c = opens_set c.move_columns.new.columns c.requires.opens c.open_cable.ensures c.open_cable-2.ensures c.open_cable-3.ensures c.open_cable-4.ensures
-    ∙ ap (set_each (lines_in c.args.outs) (port_columns c.args.placement)) c.move_columns.ensures
+pub loop-i-preserved : goal.loop-i-preserved
+loop-i-preserved c = opened_more c.requires.opens c.loop-i.i c.loop-i-test.true _ _ _ refl c.port_column.ensures c.loop-i.invariant

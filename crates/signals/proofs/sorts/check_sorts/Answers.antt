@@ -1,24 +1,45 @@
--- `signals::sorts::check_sorts` meets its contract: the first of 17 and 18 that finds a place. Assumes nothing.
-use mathlib.Core.Path.{◌≡◌, sym, ◌∙◌}
-use Rattle.lists.specs.declared.Found.TheVariants.{Nothing}
-use Rattle.levels.specs.Sorts.{check17}
-use Rattle.levels.proofs.RowChecks.{sorts_17, sorts_count, sorts_18, sorts_clear}
+-- `signals::sorts::check_sorts` meets its contract: each check behind those that find nothing. Assumes nothing.
+use Rattle.std.proofs.Common.{rules, ◌≡◌, ℕ, List, [], ◌∷◌, Err, ap, ◌∙◌}
+use Rattle.checks.specs.Checks.{Check, Clear}
+use Rattle.checks.specs.declared.Fault.TheVariants as faults
+use Rattle.checks.proofs.FirstRefusal.{refused_next, clear_next, decided_next, no_check}
+use Rattle.station.specs.Station.{station_of}
+use Rattle.levels.specs.Sorts.{check17, check17_count, sort_checks}
+use Rattle.signals.proofs.sorts.check_sorts.Goals.{In_ok-refuse}
 use Rattle.signals.proofs.sorts.check_sorts.Goals as goal
-use Rattle.signals.proofs.sorts.check_sorts.Goals.{In_default}
 
-formed : (c : In_default) → check17 c.args.row.now ≡ Nothing
-formed c = sym c.misformed_word.ensures ∙ c.in_default.is
+-- the checks made so far
+formed : List ℕ → List Check
+formed row = record { fault = faults.MisformedSort; finds = λ list. check17 row } ∷ []
 
-pub returns-in-At : goal.returns-in-At
-returns-in-At c = sym (sorts_17 _ _ _ (sym c.misformed_word.ensures ∙ c.in-At.is))
+counted : List ℕ → List Check
+counted row =
+    record { fault = faults.MisformedSort; finds = λ list. check17 row }
+    ∷ record { fault = faults.MisformedSort; finds = λ list. check17_count (station_of list).parts row }
+    ∷ []
 
-pub returns-then-row-n : goal.returns-then-row-n
-returns-then-row-n c = sym (sorts_count _ _ (formed (goal.at.returns-then-row-n c).In_default) _ c.part_count-n.ensures c.if-row-n.true)
+clear_formed : (c : In_ok-refuse) → Clear (formed c.args.row.now) c.args.list.now
+unfolding formed
+clear_formed c = clear_next [] _ (no_check _) c.misformed_word.ensures c.refuse.ensures c.in_ok-refuse.was
 
-pub returns-in-At-misnumbered_part : goal.returns-in-At-misnumbered_part
-returns-in-At-misnumbered_part c = let words = c.if-row-n.false ∙ c.part_count-n.ensures in
-    sym (sorts_18 _ _ (formed (goal.at.returns-in-At-misnumbered_part c).In_default) words _ (sym c.misnumbered_part.ensures ∙ c.in-At-misnumbered_part.is))
+pub returns-in_err-refuse : goal.returns-in_err-refuse
+unfolding sort_checks
+returns-in_err-refuse c =
+    let e : c.from_residual.result ≡ Err c.in_err-refuse.field-0.0 = search rules in
+    e ∙ refused_next [] _ (no_check _) c.misformed_word.ensures c.refuse.ensures _ c.in_err-refuse.was
+
+pub returns-in_err-refuse-2 : goal.returns-in_err-refuse-2
+unfolding sort_checks formed
+returns-in_err-refuse-2 c =
+    let e : c.from_residual-in_err-refuse-2.result ≡ Err c.in_err-refuse-2.field-0.0 = search rules in
+    e
+    ∙ refused_next (formed c.args.row.now) _ (clear_formed (goal.at.returns-in_err-refuse-2 c).In_ok-refuse)
+    (c.wrong_count.ensures ∙ ap (λ n. check17_count n c.args.row.now) c.part_count.ensures) c.refuse-2.ensures _ c.in_err-refuse-2.was
 
 pub returns : goal.returns
-returns c = let words = c.if-row-n.false ∙ c.part_count-n.ensures in
-    sym (sorts_clear _ _ (formed (goal.at.returns c).In_default) words (sym c.misnumbered_part.ensures ∙ c.in_default-misnumbered_part.is))
+unfolding sort_checks formed counted
+returns c =
+    decided_next (counted c.args.row.now) _
+    (clear_next (formed c.args.row.now) _ (clear_formed (goal.at.returns c).In_ok-refuse)
+    (c.wrong_count.ensures ∙ ap (λ n. check17_count n c.args.row.now) c.part_count.ensures) c.refuse-2.ensures c.in_ok-refuse-2.was)
+    c.misnumbered_part.ensures c.refuse-3.ensures

@@ -1,12 +1,9 @@
 -- `sweeping::lines::sweep_line` meets its contract. The loop's invariant is `Tracing`. Assumes nothing.
-use Prim.Native.Nat.{◌-◌}
-use lib.ListN.{length}
 use Rattle.geometry.specs.Spots.{spot_in}
+use Rattle.directions.specs.Code.{strand_in}
 use Rattle.sweeping.proofs.LineSteps.{Tracing}
 use Rattle.sweeping.proofs.lines.sweep_line.Given as goal
 
-abbrev pub invariant-loop-k : goal.invariant-loop-k
-invariant-loop-k l = Tracing l.y l.strand (spot_in l.initial.p) l.corners (spot_in l.last) l.initial.alone l.initial.pairs l.alone l.pairs (spot_in l.p) l.k
-
-abbrev pub decreases-loop-k : goal.decreases-loop-k
-decreases-loop-k l = length l.corners - l.k
+abbrev pub invariant-loop-word : goal.invariant-loop-word
+invariant-loop-word l =
+    Tracing (strand_in l.strand) (spot_in l.line.first) l.line.corners.now (spot_in l.line.last) l.fn.boards l.boards (spot_in l.p) l.word-index

@@ -1,37 +1,23 @@
 -- `sweeping::lines::visit_between` meets its contract. Assumes nothing.
 use mathlib.Core.Path.{sym, ◌∙◌}
 use Rattle.geometry.specs.Spots.{spot_in}
-use Rattle.sweeping.proofs.LineSteps.{visited, visited_one, visited_none, visits_are, open_upright, open_elsewhere, open_level, open_other_row}
+use Rattle.sweeping.proofs.LineSteps.{visited_as, visited_one, visited_none, open_upright, open_elsewhere, open_level, open_other_row}
 use Rattle.sweeping.proofs.lines.visit_between.Goals as goal
 
-pub returns-then-passes_row : goal.returns-then-passes_row
-returns-then-passes_row c = let a = c.args in
-    let h = visits_are
-    (open_upright a.y (spot_in a.p) (spot_in a.q) c.if-p-q.true
-    (sym c.passes_row.ensures ∙ c.if-passes_row.true))
-    (visited_one a.y a.strand a.alone.now a.pairs.now _ (c.visit.ensures.alone_after, c.visit.ensures.pairs_after)) in
-    record { alone_after = h.0; pairs_after = h.1 }
+pub returns-then-p-boards : goal.returns-then-p-boards
+returns-then-p-boards c = let a = c.args in
+    visited_as (open_level _ (spot_in a.p) (spot_in a.q) c.min.ensures c.max.ensures c.if-p-q.true c.if-p-boards.true) c.visit_columns.ensures
 
-pub returns-else-passes_row : goal.returns-else-passes_row
-returns-else-passes_row c = let a = c.args in
-    let h = visits_are
-    (open_elsewhere a.y (spot_in a.p) (spot_in a.q) c.if-p-q.true
-    (sym c.passes_row.ensures ∙ c.if-passes_row.false))
-    (visited_none a.y a.strand a.alone.now a.pairs.now) in
-    record { alone_after = h.0; pairs_after = h.1 }
+pub returns-else-p-boards : goal.returns-else-p-boards
+returns-else-p-boards c = let a = c.args in
+    visited_as (open_other_row _ (spot_in a.p) (spot_in a.q) c.if-p-q.true c.if-p-boards.false) (visited_none _)
 
-pub returns-then-p-y : goal.returns-then-p-y
-returns-then-p-y c = let a = c.args in
-    let low = c.lower-from in
-    let high = c.higher in
-    let h = visits_are
-    (open_level a.y (spot_in a.p) (spot_in a.q) low.ensures high.ensures c.if-p-q.false c.if-p-y.true)
-    (visited a.y a.strand a.alone.now a.pairs.now _ (c.visit_columns.ensures.alone_after, c.visit_columns.ensures.pairs_after)) in
-    record { alone_after = h.0; pairs_after = h.1 }
+pub returns-then-lies_between : goal.returns-then-lies_between
+returns-then-lies_between c = let a = c.args in
+    let v = c.visit.ensures in
+    visited_as (open_upright _ (spot_in a.p) (spot_in a.q) c.if-p-q.false (sym c.lies_between.ensures ∙ c.if-lies_between.true))
+    (visited_one _ v.row_stays v.alone_after v.pairs_after)
 
-pub returns-else-p-y : goal.returns-else-p-y
-returns-else-p-y c = let a = c.args in
-    let h = visits_are
-    (open_other_row a.y (spot_in a.p) (spot_in a.q) c.if-p-q.false c.if-p-y.false)
-    (visited_none a.y a.strand a.alone.now a.pairs.now) in
-    record { alone_after = h.0; pairs_after = h.1 }
+pub returns-else-lies_between : goal.returns-else-lies_between
+returns-else-lies_between c = let a = c.args in
+    visited_as (open_elsewhere _ (spot_in a.p) (spot_in a.q) c.if-p-q.false (sym c.lies_between.ensures ∙ c.if-lies_between.false)) (visited_none _)

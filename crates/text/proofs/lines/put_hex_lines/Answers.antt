@@ -6,15 +6,15 @@ use Rattle.text.specs.Lines.{hex_lines}
 use Rattle.text.proofs.LineLaws.{lines_next, lines_place}
 use Rattle.text.proofs.lines.put_hex_lines.Goals as goal
 
-pub loop-i-init : goal.loop-i-init
+pub loop-word-init : goal.loop-word-init
 unfolding hex_lines
-loop-i-init c = (omega arith, stored_none _ (omega arith))
+loop-word-init c = (omega arith, stored_none _ (omega arith))
 
 pub put_hex_line-next-requires : goal.put_hex_line-next-requires
-put_hex_line-next-requires c = omega (arith, lines_place c.args.words.now c.loop-i.i (omega arith) c.loop-i.invariant.1, stored_kept c.loop-i.invariant.1)
+put_hex_line-next-requires c = omega (arith, lines_place c.args.words.now c.loop-word.word-index (omega arith) c.loop-word.invariant.1, stored_kept c.loop-word.invariant.1)
 
-pub loop-i-preserved : goal.loop-i-preserved
-loop-i-preserved c = (omega arith, lines_next c.args.words.now c.loop-i.i (omega arith) c.loop-i.invariant.1 c.put_hex_line-next.ensures)
+pub loop-word-preserved : goal.loop-word-preserved
+loop-word-preserved c = (omega arith, lines_next c.args.words.now c.loop-word.word-index (omega arith) c.loop-word.invariant.1 c.put_hex_line-next.ensures)
 
 pub returns : goal.returns
-returns c = stored_as (ap hex_lines (take_all c.loop-i.i c.args.words.now (omega arith))) c.loop-i.invariant.1
+returns c = stored_as (ap hex_lines (take_all c.loop-word.word-index c.args.words.now (omega arith))) c.loop-word.invariant.1

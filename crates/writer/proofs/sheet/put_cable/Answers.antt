@@ -3,7 +3,7 @@ use native.Mathlib.Omega.{arith}
 use mathlib.Core.Path.{◌∙◌}
 use Rattle.drawing.proofs.WordCounts.{route_length}
 use Rattle.layout.specs.Points.{corners_of}
-use Rattle.placement.specs.Arrays.{course_in}
+use Rattle.placement.specs.Laid.{course_in}
 use Rattle.writer.proofs.CornerWords.{corners_next, corner_few, head_stored}
 use Rattle.writer.proofs.sheet.put_cable.Goals as goal
 
@@ -21,9 +21,6 @@ sheet_cable-requires c = omega (arith, corners_next (course_in c.args.c) c.put_c
 
 pub put-requires : goal.put-requires
 put-requires c = omega (arith, route_length c.args.line (corners_of (course_in c.args.c)), c.requires.c_in_bounds, c.put_corners-next.auto.sheet)
-
-pub shape_of-sheet : goal.shape_of-sheet
-shape_of-sheet c = c.put.auto.sheet ∙ c.put_corners-next.auto.sheet
 
 pub returns : goal.returns
 returns c = head_stored c.args.line (corners_of (course_in c.args.c)) c.put_corners-next.ensures c.sheet_cable.ensures c.put.ensures

@@ -1,64 +1,53 @@
 -- Four corners at most, each by its own test. Assumes nothing.
-use Prim.Native.Nat.{◌+◌, ◌≤◌}
 use native.Mathlib.Omega.{arith}
-use mathlib.Core.Path.{ap}
-use mathlib.Core.Bool.{◌||◌}
-use lib.ListN.{length}
+use mathlib.Core.Path.{◌≡◌, refl, ap, ◌∙◌}
+use mathlib.Core.Bool.{◌&&◌, ◌||◌}
+use borrow.Author.Tests.{eq-eqb, ne_eqb}
 use Rattle.lists.specs.Select.{one_if}
-use Rattle.words.specs.Words.{corner_word}
-use Rattle.placement.specs.Arrays.{course_in}
-use Rattle.writer.proofs.CornerWords.{dips, shifts, returns as returns_to, drops, corner_count_lem, room_left, corners_stored}
+use Rattle.placement.specs.Laid.{course_in}
+use Rattle.writer.proofs.CornerWords.{dips, shifts, corner_count_lem, first_left, second_left, third_left, corners_stored}
 use Rattle.writer.proofs.sheet.put_corners.Goals as goal
-use Rattle.writer.proofs.sheet.put_corners.Goals.{After-put_corner-fourth, After-put_corner-second, After-put_corner-third}
+use Rattle.writer.proofs.sheet.put_corners.Goals.{Joined-dips, Joined-dips-2, then-dips, else-dips, then-dips-2, else-dips-2}
 
--- the room that is left behind each
-room_1 : (k : After-put_corner-second) → let c = course_in k.args.c in
-    k.put_corner-second.result + (one_if (dips c || shifts c) + (one_if (returns_to c) + one_if (drops c))) ≤ length k.put_corner-second.new.sheet
-room_1 k = let all = corner_count_lem (course_in k.args.c) k.requires.course_fits.rises in
-    room_left k.conjunction.result (corner_word k.args.c.from.x k.args.c.low) _ k.put_corner-second.ensures
-    (omega (arith, all, ap one_if k.conjunction.ensures, k.requires.c_in_bounds))
+first : (k : Joined-dips) → k.if-dips.put_corner ≡ (dips (course_in k.args.c) && shifts (course_in k.args.c))
+first k = elim k.if-dips.branch [ then-dips w ↦ rw (ne_eqb _ _ w.if-dips.true) w.put_corner-is | else-dips w ↦ w.put_corner-is ∙ rw (eq-eqb _ _ w.if-dips.false) refl ]
 
-room_1-After-put_corner-third : (k : After-put_corner-third) → let c = course_in k.args.c in
-    k.put_corner-second.result + (one_if (dips c || shifts c) + (one_if (returns_to c) + one_if (drops c))) ≤ length k.put_corner-second.new.sheet
-room_1-After-put_corner-third k = let all = corner_count_lem (course_in k.args.c) k.requires.course_fits.rises in
-    room_left k.conjunction.result (corner_word k.args.c.from.x k.args.c.low) _ k.put_corner-second.ensures
-    (omega (arith, all, ap one_if k.conjunction.ensures, k.requires.c_in_bounds))
-
-room_2 : (k : After-put_corner-third) → let c = course_in k.args.c in
-    k.put_corner-third.result + (one_if (returns_to c) + one_if (drops c)) ≤ length k.put_corner-third.new.sheet
-room_2 k = let c = k.args.c in
-    room_left k.disjunction.result (corner_word c.column c.low) _ k.put_corner-third.ensures
-    (omega (arith, room_1-After-put_corner-third k, ap one_if k.disjunction.ensures))
-
-room_1-After-put_corner-fourth : (k : After-put_corner-fourth) → let c = course_in k.args.c in
-    k.put_corner-second.result + (one_if (dips c || shifts c) + (one_if (returns_to c) + one_if (drops c))) ≤ length k.put_corner-second.new.sheet
-room_1-After-put_corner-fourth k = let all = corner_count_lem (course_in k.args.c) k.requires.course_fits.rises in
-    room_left k.conjunction.result (corner_word k.args.c.from.x k.args.c.low) _ k.put_corner-second.ensures
-    (omega (arith, all, ap one_if k.conjunction.ensures, k.requires.c_in_bounds))
-
-room_2-After-put_corner-fourth : (k : After-put_corner-fourth) → let c = course_in k.args.c in
-    k.put_corner-third.result + (one_if (returns_to c) + one_if (drops c)) ≤ length k.put_corner-third.new.sheet
-room_2-After-put_corner-fourth k = let c = k.args.c in
-    room_left k.disjunction.result (corner_word c.column c.low) _ k.put_corner-third.ensures
-    (omega (arith, room_1-After-put_corner-fourth k, ap one_if k.disjunction.ensures))
-
-room_3 : (k : After-put_corner-fourth) → let c = course_in k.args.c in
-    k.put_corner-fourth.result + one_if (drops c) ≤ length k.put_corner-fourth.new.sheet
-room_3 k = let c = course_in k.args.c in
-    room_left (returns_to c) (corner_word c.column c.high) _ k.put_corner-fourth.ensures (room_2-After-put_corner-fourth k)
+second : (k : Joined-dips-2) → k.if-dips-2.put_corner ≡ (dips (course_in k.args.c) || shifts (course_in k.args.c))
+second k = elim k.if-dips-2.branch [ then-dips-2 w ↦ w.put_corner-is ∙ rw (ne_eqb _ _ w.if-dips-2.true) refl | else-dips-2 w ↦ rw (eq-eqb _ _ w.if-dips-2.false) w.put_corner-is ]
 
 pub put_corner-second-requires : goal.put_corner-second-requires
-put_corner-second-requires c = omega (arith, corner_count_lem (course_in c.args.c) c.requires.course_fits.rises, ap one_if c.conjunction.ensures, c.requires.course_fits, c.requires.c_in_bounds)
+put_corner-second-requires c =
+    omega (
+      arith,
+      corner_count_lem (course_in c.args.c) c.requires.course_fits.rises,
+      ap one_if (first (goal.at.put_corner-second-requires c).Joined-dips),
+      c.requires.course_fits,
+      c.requires.c_in_bounds,
+    )
 
-pub put_corner-third-requires : goal.put_corner-third-requires
-put_corner-third-requires c = omega (arith, room_1 (goal.at.put_corner-third-requires c).After-put_corner-second, ap one_if c.disjunction.ensures, c.requires.course_fits)
+pub put_corner-third-requires-clause-turns_in_bounds : goal.put_corner-third-requires-clause-turns_in_bounds
+put_corner-third-requires-clause-turns_in_bounds c =
+    let j = goal.at.put_corner-third-requires-clause-turns_in_bounds c in
+    omega (
+      arith,
+      first_left (course_in c.args.c) c.requires.course_fits.rises (first j.Joined-dips) c.put_corner-second.ensures c.requires.c_in_bounds,
+      ap one_if (second j.Joined-dips-2),
+    )
 
-pub put_corner-fourth-requires : goal.put_corner-fourth-requires
-put_corner-fourth-requires c = omega (arith, room_2 (goal.at.put_corner-fourth-requires c).After-put_corner-third, c.requires.course_fits)
+pub put_corner-fourth-requires-clause-turns_in_bounds : goal.put_corner-fourth-requires-clause-turns_in_bounds
+put_corner-fourth-requires-clause-turns_in_bounds c =
+    let j = goal.at.put_corner-fourth-requires-clause-turns_in_bounds c in
+    let a = first_left (course_in c.args.c) c.requires.course_fits.rises (first j.Joined-dips) c.put_corner-second.ensures c.requires.c_in_bounds in
+    omega (arith, second_left (course_in c.args.c) (second j.Joined-dips-2) c.put_corner-third.ensures a)
 
-pub put_corner-requires : goal.put_corner-requires
-put_corner-requires c = omega (arith, room_3 (goal.at.put_corner-requires c).After-put_corner-fourth, c.requires.course_fits)
+pub put_corner-requires-clause-turns_in_bounds : goal.put_corner-requires-clause-turns_in_bounds
+put_corner-requires-clause-turns_in_bounds c =
+    let j = goal.at.put_corner-requires-clause-turns_in_bounds c in
+    let a = first_left (course_in c.args.c) c.requires.course_fits.rises (first j.Joined-dips) c.put_corner-second.ensures c.requires.c_in_bounds in
+    third_left (course_in c.args.c) c.put_corner-fourth.ensures (second_left (course_in c.args.c) (second j.Joined-dips-2) c.put_corner-third.ensures a)
 
 pub returns : goal.returns
-returns c = corners_stored (course_in c.args.c) _ _ c.requires.course_fits.rises c.conjunction.ensures c.disjunction.ensures c.put_corner-second.ensures
+returns c =
+    let j = goal.at.returns c in
+    corners_stored (course_in c.args.c) _ _ c.requires.course_fits.rises (first j.Joined-dips) (second j.Joined-dips-2) c.put_corner-second.ensures
     c.put_corner-third.ensures c.put_corner-fourth.ensures c.put_corner.ensures

@@ -18,42 +18,29 @@ pub loop-p-init : goal.loop-p-init
 unfolding parts_section
 loop-p-init c = (omega arith, storing_start _ _ _)
 
-pub offset_bounds-ranking-p : goal.offset_bounds-ranking-p
-offset_bounds-ranking-p c = omega (arith, c.requires.layout.fits.most)
-
-pub bounds-ranking-p : goal.bounds-ranking-p
-bounds-ranking-p c = omega (arith, c.requires.layout.fits.most)
-
 pub part_word-requires : goal.part_word-requires
 part_word-requires c = record {
-  layout = c.requires.layout;
   fits = c.requires.fits;
-  k_lt_parts = rank_below c.args.layout c.requires.layout c.args.ranking c.requires.inverse _ (omega arith);
+  k_lt_parts = rank_below c.args.layout.now c.args.ranking.now c.requires.inverse _ (omega arith);
 }
 
 pub put-next-requires : goal.put-next-requires
 put-next-requires c = let l = c.loop-p in
-    let n = number_count c.args.layout c.requires.layout c.args.ranking c.args.spacing in
-    let d = spaced c.args.spacing (numbered_in c.args.ranking c.args.layout) in
+    let n = number_count c.args.layout.now c.args.ranking.now c.args.spacing in
+    let d = spaced c.args.spacing (numbered_in c.args.ranking.now c.args.layout.now) in
     omega (arith, l.invariant.1.place, storing_kept l.invariant.1, c.requires.parts_in_bounds, parts_length d, n, ap length (parts_next d l.p (omega (arith, n, c.loop-p-test.true))))
-
-pub overflow_add-p : goal.overflow_add-p
-overflow_add-p c = omega (arith, c.requires.layout.fits.most)
 
 pub loop-p-preserved : goal.loop-p-preserved
 loop-p-preserved c = let l = c.loop-p in
     let h = c.loop-p-test.true in
-    let n = number_count c.args.layout c.requires.layout c.args.ranking c.args.spacing in
-    let e = c.part_word.ensures ∙ ap part_spot_word (number_spot c.args.layout c.requires.layout c.args.ranking c.requires.inverse c.args.spacing l.p h) in (
+    let n = number_count c.args.layout.now c.args.ranking.now c.args.spacing in
+    let e = c.part_word.ensures ∙ ap part_spot_word (number_spot c.args.layout.now c.args.ranking.now c.requires.inverse c.args.spacing l.p h) in (
       omega arith,
-      storing_next _ (parts_next (spaced c.args.spacing (numbered_in c.args.ranking c.args.layout)) l.p (omega (arith, n, h))) (stored_as (ap (λ (z : ℕ). z ∷ []) e) c.put-next.ensures) l.invariant.1,
+      storing_next _ (parts_next (spaced c.args.spacing (numbered_in c.args.ranking.now c.args.layout.now)) l.p (omega (arith, n, h))) (stored_as (ap (λ (z : ℕ). z ∷ []) e) c.put-next.ensures) l.invariant.1,
     )
-
-pub shape_of-sheet : goal.shape_of-sheet
-shape_of-sheet c = storing_kept c.loop-p.invariant.1
 
 pub returns : goal.returns
 returns c = storing_end
-    (parts_end (spaced c.args.spacing (numbered_in c.args.ranking c.args.layout)) c.loop-p.p
-    (omega (arith, c.loop-p-test.false, number_count c.args.layout c.requires.layout c.args.ranking c.args.spacing)))
+    (parts_end (spaced c.args.spacing (numbered_in c.args.ranking.now c.args.layout.now)) c.loop-p.p
+    (omega (arith, c.loop-p-test.false, number_count c.args.layout.now c.args.ranking.now c.args.spacing)))
     c.loop-p.invariant.1

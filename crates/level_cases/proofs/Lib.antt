@@ -1,2 +1,0 @@
--- What the patterns of floats rest on. Assumes nothing.
-pub mod Nan

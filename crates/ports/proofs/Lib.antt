@@ -1,2 +1,0 @@
--- What the cases of the figures share. Assumes nothing.
-pub mod Chosen

@@ -1,9 +1,0 @@
--- `sequences::operate_all` meets its contract. Assumes nothing.
-use Rattle.std.specs.Prelude.{◌≤◌, ◌-◌, length}
-use Rattle.sequences.proofs.operate_all.Given as goal
-
-abbrev pub invariant-loop-at : goal.invariant-loop-at
-invariant-loop-at g l = (l.at ≤ length l.operations)
-
-abbrev pub decreases-loop-at : goal.decreases-loop-at
-decreases-loop-at g l = length l.operations - l.at

@@ -1,0 +1,2 @@
+-- The numbers of the sorts of parts. Assumes nothing.
+pub mod Numbers

@@ -1,8 +1,0 @@
--- `sweeping::blank_pairs` meets its contract. Assumes nothing.
-use mathlib.Core.Path.{refl}
-use Rattle.sweep.specs.Sweep.{blank}
-use Rattle.sweeping.proofs.blank_pairs.Goals as goal
-
-pub returns : goal.returns
-unfolding blank
-returns c = refl
