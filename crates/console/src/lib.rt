@@ -2,7 +2,7 @@
 // behind its count.
 #![tactic(auto)]
 
-ghost use Rattle.std.specs.Prelude.{◌≡◌, ◌/◌, ◌≤◌, ◌<◌, ◌∷◌, ◌++◌, ◌↔◌, length, slice_index, vec_len, IfErr, IfOk, IfSome, IsSome, MatchResult};
+ghost use Rattle.std.specs.Prelude.{◌≡◌, ◌/◌, ◌≤◌, ◌<◌, ◌∷◌, ◌++◌, ◌↔◌, length, slice_index, vec_len, IfErr, IfOk, IsSome, MatchOption, MatchResult};
 ghost use Rattle.console.specs.Input.{most_read};
 
 use std::fmt::Display;
@@ -86,9 +86,9 @@ pub fn input_words(rt: &(impl Input + AllocGlobal)) -> io::Result<Vec<u32>>
     Ok(words)
 }
 
-/// Takes the first `N` words off the front.
+/// Takes the first `N` words off the front; of fewer, none.
 pub fn take_words<'a, const N: usize>(words: &mut &'a [u32]) -> Option<&'a [u32; N]>
-    ensures some { IfSome result (λ head. words.old.now ≡ head.now ++ words.new.now) }
+    ensures some { MatchOption result (words.new.now ≡ words.old.now) (λ head. words.old.now ≡ head.now ++ words.new.now) }
     ensures variant { IsSome result ↔ (N ≤ length words.old.now) }
 {
     let (head, rest) = words.split_first_chunk()?;
@@ -96,14 +96,17 @@ pub fn take_words<'a, const N: usize>(words: &mut &'a [u32]) -> Option<&'a [u32;
     Some(head)
 }
 
-/// Takes a row off the front, which stands there behind its count. Without a whole row the words may lose the count.
+/// Takes a row off the front, which stands there behind its count. Without a whole row the words stay.
 pub fn take_row<'a>(words: &mut &'a [u32]) -> Option<&'a [u32]>
-    ensures some { IfSome result (λ row. words.old.now ≡ length row.now ∷ row.now ++ words.new.now) }
+    ensures some { MatchOption result (words.new.now ≡ words.old.now) (λ row. words.old.now ≡ length row.now ∷ row.now ++ words.new.now) }
     ensures variant { IsSome result
         ↔ ((0 < length words.old.now) × (slice_index words.old.now 0 < length words.old.now)) }
 {
-    let count = *words.split_off_first()?;
-    words.split_off(..count as usize)
+    let mut behind = *words;
+    let count = *behind.split_off_first()?;
+    let row = behind.split_off(..count as usize)?;
+    *words = behind;
+    Some(row)
 }
 
 /// A word a line.
