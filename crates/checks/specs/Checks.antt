@@ -1,5 +1,5 @@
 -- Document 01, 'Lists that are sent back': the checks of a call in their order, and the first that applies. Assumes nothing.
-use Rattle.std.specs.Prelude.{ℕ, ◌≡◌, Bool, cond, List, [], ◌∷◌, map, Option, Some, None, Result, Ok, Err, ⊤}
+use Rattle.std.specs.Prelude.{ℕ, ◌≡◌, Bool, cond, List, [], ◌∷◌, ◌++◌, map, Option, Some, None, Result, Ok, Err, ⊤, codes, decimal}
 use Rattle.checks.specs.declared.Fault.{Fault}
 use Rattle.checks.specs.declared.Fault.TheVariants as faults
 use Rattle.checks.specs.declared.Refusal.{Refusal}
@@ -38,6 +38,10 @@ passed = Ok tt
 
 abbrev pub refused : {A : Type 0} → Fault → ℕ → Result A Refusal
 refused fault place = Err (record { fault = fault; place = place })
+
+-- what is printed of a refusal: '`refused`, the number and the place, with single spaces'
+abbrev pub refusal_text : Refusal → List ℕ
+refusal_text r = codes "refused " ++ (decimal (number_of r.fault) ++ (codes " " ++ decimal r.place))
 
 -- A check has the fault that it looks for, and finds its place in a list to which it applies.
 pub record Check : Type 0 where

@@ -3,17 +3,18 @@
 #![tactic(auto)]
 
 ghost use Rattle.std.specs.Prelude.{◌≡◌, ◌/◌, ◌≤◌, ◌<◌, ◌∷◌, ◌++◌, ◌↔◌, length, slice_index, vec_len, IfErr, IfOk, IsSome, MatchOption, MatchResult};
-ghost use Rattle.console.specs.Input.{most_read};
+ghost use Rattle.console.specs.Input.{most_read, part_words};
 
 use std::fmt::Display;
 use std::io;
 use std::io::Read;
 use text::bytes::read_words;
+use text::lines::put_hex_lines;
 
 /// The most words that are read.
 pub const MOST_READ: usize = 131072;
 
-// The words of a part of the input.
+// The words of a part, read or printed at once.
 const PART: usize = 1024;
 
 // The parts of the longest input.
@@ -109,10 +110,21 @@ pub fn take_row<'a>(words: &mut &'a [u32]) -> Option<&'a [u32]>
     Some(row)
 }
 
+// The words of a part, a word a line, by one write.
+#[tactic(auto, using(text::proofs::LineLaws::length_hex_lines, lists::proofs::Stores::stored_kept))]
+fn say_part(rt: &impl Print, words: &[u32]) -> io::Result<()>
+    requires { length words.now ≤ part_words }
+{
+    let mut out = [0u8; 9 * PART];
+    let end = put_hex_lines(&mut out, 0, words);
+    let lines = &out[..end];
+    rt.write_all(lines)
+}
+
 /// A word a line.
 pub fn say_words(rt: &impl Print, words: &[u32]) -> io::Result<()> {
-    for word in words {
-        println!(rt; "{word:08x}")?;
+    for part in words.chunks(PART) {
+        say_part(rt, part)?;
     }
     Ok(())
 }

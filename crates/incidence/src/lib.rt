@@ -1,6 +1,6 @@
 // The cables at one rank, those that go out of it and those that come in, in their sequence.
 #![tactic(auto)]
 
-mod collecting;
+pub mod collecting;
 pub mod incident;
 pub mod sequence;

@@ -32,7 +32,8 @@ fn is_misplaced(i: usize, w: u32) -> bool
     ensures { result ≡ misplaced i w }
 {
     let kind = kind_at(i);
-    !Word(w).is(kind) || kind != Kind::ListHead && Word(w).spare() != 0
+    // No branch between the tests of a word, so that for a cable they are one.
+    !Word(w).is(kind) | ((kind != Kind::ListHead) & (Word(w).spare() != 0))
 }
 
 // 2: the 'first such word'.

@@ -54,7 +54,9 @@ fn rank_station(walker: &Walker) -> Result<Ranking, Refusal>
 pub fn check_and_rank(list: &[u32]) -> Result<Ranking, Refusal>
     ensures { Checked list.now result }
 {
-    check_list(list)?;
+    if let Err(refusal) = check_list(list) {
+        return Err(refusal);
+    }
     rank_station(&Walker::new(list))
 }
 

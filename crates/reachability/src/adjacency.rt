@@ -12,14 +12,14 @@ use words::limits::{MOST_DEGREE, MOST_PARTS};
 // A part's neighbours: of its places, as many as it counts.
 #[derive(Clone, Copy)]
 pub struct Neighbours {
-    parts: [Part; MOST_DEGREE],
-    count: u8,
+    pub parts: [Part; MOST_DEGREE],
+    pub count: u8,
 }
 
-// The neighbours of every part, by line.
+// The neighbours of every part, by line. `of` gives those of a list; any table that fits is one.
 #[derive(Clone, Copy)]
 pub struct Adjacency {
-    table: [Neighbours; MOST_PARTS],
+    pub table: [Neighbours; MOST_PARTS],
     pub ghost formed: { TableFits table },
 }
 

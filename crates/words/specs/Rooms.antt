@@ -6,7 +6,7 @@ use Rattle.words.specs.Limits.{most_parts, most_degree}
 abbrev pub neighbour_places : ℕ
 neighbour_places = most_degree * most_parts
 
--- the adjacency table: the neighbours of each part, then the degree of each
+-- the adjacency table: for each part the places of its neighbours, and how many they are
 abbrev pub adjacency_places : ℕ
 adjacency_places = neighbour_places + most_parts
 

@@ -26,7 +26,7 @@ pub const MOST_MARKS: usize = 64;
 // Room for the neighbours of each part.
 pub const NEIGHBOUR_PLACES: usize = MOST_DEGREE * MOST_PARTS;
 
-// The adjacency table: the neighbours of each part, then the degree of each.
+// The adjacency table: for each part the places of its neighbours, and how many they are.
 pub const ADJACENCY_PLACES: usize = NEIGHBOUR_PLACES + MOST_PARTS;
 
 // The stack of a walk, which puts the parts that it starts from on it, at most two, and then each part's neighbours in place of the part: a
